@@ -1,0 +1,4 @@
+pub mod Words
+pub mod Secrets
+pub mod Cursor
+pub mod Results
