@@ -1,0 +1,6 @@
+pub mod Expanders
+pub mod Walk
+pub mod Leaves
+pub mod Toy
+pub mod ChaChaExpansion
+pub mod Reading
