@@ -44,12 +44,12 @@ impl MemoryFiles {
     }
 
     /// Makes a name hold the bytes, without counting as a call; changes nothing without memory.
-    pub fn put(&mut self, alloc: Global, name: &str, bytes: &[u8]) -> Result<(), AllocError>
+    pub fn put(&mut self, name: &str, bytes: &[u8]) -> Result<(), AllocError>
         ensures ok { OnOk result (self.new.held ≡ map.insert self.old.held name.now bytes.now) }
         ensures err { OnErr result (self.new.held ≡ self.old.held) }
         ensures counts { self.new.failing ≡ self.old.failing }
     {
-        self.log.put(alloc, name.as_bytes(), bytes)
+        self.log.put(name.as_bytes(), bytes)
     }
 
     /// The bytes of a name.
@@ -81,7 +81,7 @@ impl Files for MemoryFiles {
         self.log.read(alloc, name.as_bytes(), limit)
     }
 
-    fn write(&mut self, alloc: Global, name: &str, bytes: &[u8]) -> Result<(), FileStop>
+    fn write(&mut self, _alloc: Global, name: &str, bytes: &[u8]) -> Result<(), FileStop>
         ensures content { WritesFile self.old.held name.now bytes.now (Some self.new.held) result }
         ensures others { KeepsOthers self.old.held name.now self.new.held }
         ensures not_absent { IsErrOf result FileStop.Absent → ⊥ }
@@ -95,7 +95,7 @@ impl Files for MemoryFiles {
         if self.fails.comes() {
             return Err(FileStop::Failed);
         }
-        match self.log.put(alloc, name.as_bytes(), bytes) {
+        match self.log.put(name.as_bytes(), bytes) {
             Ok(()) => Ok(()),
             Err(_) => Err(FileStop::OutOfMemory),
         }
@@ -133,11 +133,11 @@ impl SteadyFiles {
     }
 
     /// Makes a name hold the bytes; changes nothing without memory.
-    pub fn put(&mut self, alloc: Global, name: &str, bytes: &[u8]) -> Result<(), AllocError>
+    pub fn put(&mut self, name: &str, bytes: &[u8]) -> Result<(), AllocError>
         ensures ok { OnOk result (self.new ≡ map.insert self.old name.now bytes.now) }
         ensures err { OnErr result (self.new ≡ self.old) }
     {
-        self.log.put(alloc, name.as_bytes(), bytes)
+        self.log.put(name.as_bytes(), bytes)
     }
 
     /// The bytes of a name.
@@ -157,8 +157,8 @@ impl Files for SteadyFiles {
         self.log.read(alloc, name.as_bytes(), limit)
     }
 
-    fn write(&mut self, alloc: Global, name: &str, bytes: &[u8]) -> Result<(), FileStop> {
-        match self.log.put(alloc, name.as_bytes(), bytes) {
+    fn write(&mut self, _alloc: Global, name: &str, bytes: &[u8]) -> Result<(), FileStop> {
+        match self.log.put(name.as_bytes(), bytes) {
             Ok(()) => Ok(()),
             Err(_) => Err(FileStop::OutOfMemory),
         }
