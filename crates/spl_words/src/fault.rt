@@ -1,4 +1,8 @@
 //! Why bytes are no frame.
+ghost use Rattle.std.specs.Prelude.{◌≡◌};
+ghost use Rattle.spl_words.specs.declared.fault.FrameFault.TheVariants.{OutOfMemory};
+
+use std::alloc::{AllocError, AllocFailed};
 
 /// The first fault that a reader of a frame met.
 #[derive(Clone, Copy, Debug, PartialEq, Eq)]
@@ -18,4 +22,20 @@ pub enum FrameFault {
     /// The digest in the frame isn't that of its bytes: found, computed.
     BadDigest([u8; 32], [u8; 32]),
     OutOfMemory,
+}
+
+impl From<AllocError> for FrameFault {
+    ghost from_gives = { λ _ e. e ≡ OutOfMemory };
+
+    fn from(_: AllocError) -> Self {
+        FrameFault::OutOfMemory
+    }
+}
+
+impl<T: Drop> From<AllocFailed<T>> for FrameFault {
+    ghost from_gives = { λ _ e. e ≡ OutOfMemory };
+
+    fn from(_: AllocFailed<T>) -> Self {
+        FrameFault::OutOfMemory
+    }
 }
