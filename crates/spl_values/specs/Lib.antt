@@ -1,0 +1,7 @@
+pub mod Names
+pub mod Kinds
+pub mod Codes
+pub mod CellTexts
+pub mod Shapes
+pub mod Tables
+pub mod Laws

@@ -2,6 +2,20 @@
 //! text that describes a table's shape.
 #![tactic(auto)]
 
+mod cells;
+mod columns;
+mod kept_texts;
+mod kinds;
+pub mod laws;
 mod lists;
+mod names;
+mod tables;
+mod values;
 
+pub use cells::{print_value, value_of};
+pub use columns::{Column, Columns, Schema, Shape};
+pub use kinds::{ColumnType, bits};
 pub use lists::{Bytes, Labels, Name};
+pub use names::{is_label, is_name, is_name_byte, is_name_start, is_reserved};
+pub use tables::{Rows, Table, join_key};
+pub use values::{Value, ValueFault, decode, encode, fits};

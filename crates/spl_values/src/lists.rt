@@ -39,6 +39,13 @@ impl Name {
         self.text.as_str()
     }
 
+    /// The bytes of the text.
+    pub fn as_bytes(&self) -> &[u8]
+        ensures { result.now ≡ self.now }
+    {
+        self.text.as_bytes()
+    }
+
     /// The text, taken out.
     pub fn into_string(self) -> String
         ensures { string_bytes result ≡ self }

@@ -1,0 +1,101 @@
+-- Laws of values as texts.
+use Rattle.std.proofs.Common.{◌≡◌, ℕ, ◌+◌, ◌^◌, ◌<◌, ◌≤◌, Bool, true, false, not, ◌&&◌, nat_le, List, [], ◌∷◌, length, position, Option, Some, None, Result, Ok, Err, IfOk, refl, sym, ◌∙◌, arith, cond, nat_lt, ◌⊎◌, inl, inr}
+use Rattle.std.specs.Char.{is_ascii_digit}
+use Rattle.std.specs.Int.{IsInRange}
+use Rattle.std.specs.Fmt.{decimal}
+use Rattle.std.specs.List.{list_all, position_from}
+use Rattle.std.proofs.lemmas.Bool.{cases_lt}
+use Rattle.std.proofs.lemmas.Iterator.Adapters.{position_from-zero}
+use Rattle.std.specs.Str.{IsAscii}
+use Rattle.std.specs.Str.Parse.{digits_value}
+use Rattle.std.proofs.lemmas.Str.Parse.{IsDigitsTest, IsNumeralModel, numerals_by_value}
+use Rattle.std.proofs.lemmas.Fmt.{digits_decimal, digits_value-decimal, decimal_nonempty, IsAscii-from_digits}
+use Rattle.std.proofs.lemmas.Bool.Decides.{nat_tests}
+use Rattle.spl_values.specs.CellTexts.{is_number, text_value, bad_byte_value}
+use Rattle.spl_values.specs.Kinds.{is_printable, Fits, padded, unpadded}
+use Rattle.spl_values.specs.declared.kinds.ColumnType.TheVariants.{Text}
+use Rattle.spl_values.specs.declared.values.Value.{Value}
+use Rattle.spl_values.specs.declared.values.Value.TheVariants as value
+use Rattle.spl_values.specs.declared.values.ValueFault.{ValueFault}
+use Rattle.spl_values.proofs.Padded.{unpadded-padded}
+
+-- digits in one's own words
+pub digits_test : IsDigitsTest (λ ds. list_all is_ascii_digit ds ≡ true)
+digits_test = record {
+  empty = refl;
+  parts = λ c cs h. digit_parts c cs h;
+  more = λ c cs h t. digit_more c cs h t;
+}
+  where
+    digit_parts : (c : ℕ) (cs : List ℕ) → list_all is_ascii_digit (c ∷ cs) ≡ true → IsInRange 48 57 c × (list_all is_ascii_digit cs ≡ true)
+    digit_parts c cs h = grind (arith, nat_tests)
+
+    digit_more : (c : ℕ) (cs : List ℕ) → IsInRange 48 57 c → list_all is_ascii_digit cs ≡ true → list_all is_ascii_digit (c ∷ cs) ≡ true
+    digit_more c cs h t = grind (arith, nat_tests)
+
+pub digits_model : IsNumeralModel (λ ds. list_all is_ascii_digit ds ≡ true) (digits_value 10)
+digits_model = numerals_by_value (λ ds. list_all is_ascii_digit ds ≡ true) digits_test
+
+-- the parts of a number
+pub number_parts : (text : List ℕ) → is_number text ≡ true → (0 < length text) × (list_all is_ascii_digit text ≡ true)
+number_parts text h = grind (arith, nat_tests)
+
+pub number_is_ascii : (text : List ℕ) → is_number text ≡ true → IsAscii text
+number_is_ascii text h = IsAscii-from_digits text (digits_model.to text (number_parts text h).1)
+
+-- what a number in decimal is
+pub decimal_is_number : (n : ℕ) → n < 2 ^ 64 → is_number (decimal n) ≡ true
+decimal_is_number n h =
+    let some = decimal_nonempty n h in
+    let digits = digits_decimal digits_model n h in
+    let few : nat_le 1 (length (decimal n)) ≡ true = grind (arith, nat_tests) in
+    rw (few, digits) refl
+
+pub decimal_value : (n : ℕ) → n < 2 ^ 64 → digits_value 10 (decimal n) ≡ n
+decimal_value n h = digits_value-decimal digits_model n h
+
+-- a number of 2 ^ 64 or more
+pub too_large : (text : List ℕ) → is_number text ≡ true → ¬ ((0 < length text) × (digits_value 10 text < 2 ^ 64)) → nat_lt (digits_value 10 text) (2 ^ 64) ≡ false
+too_large text h over = elim (cases_lt (digits_value 10 text) (2 ^ 64)) [ inl lt ↦ absurd (over ((number_parts text h).0, lt)) | inr ge ↦ grind (arith, nat_tests) ]
+
+-- each byte passes where none is the first that doesn't, and the other way round
+all_pass : (f : ℕ → Bool) (i : ℕ) (xs : List ℕ) → position_from (λ b. not (f b)) i xs ≡ None → list_all f xs ≡ true
+all_pass f i [] h = refl
+all_pass f i (x ∷ xs) h =
+    elim (f x) as (λ b. cond (not b) (Some i) (position_from (λ c. not (f c)) (i + 1) xs) ≡ None → (b && list_all f xs) ≡ true)
+    [ true ↦ λ e. all_pass f (i + 1) xs e | false ↦ λ e. absurd cc ] h
+
+none_fails : (f : ℕ → Bool) (i : ℕ) (xs : List ℕ) → list_all f xs ≡ true → position_from (λ b. not (f b)) i xs ≡ None
+none_fails f i [] h = refl
+none_fails f i (x ∷ xs) h =
+    elim (f x) as (λ b. (b && list_all f xs) ≡ true → cond (not b) (Some i) (position_from (λ c. not (f c)) (i + 1) xs) ≡ None)
+    [ true ↦ λ e. none_fails f (i + 1) xs e | false ↦ λ e. absurd cc ] h
+
+pub all_printable : (text : List ℕ) → position (λ b. not (is_printable b)) text ≡ None → list_all is_printable text ≡ true
+all_printable text h = all_pass is_printable 0 text (sym (position_from-zero (λ b. not (is_printable b)) text) ∙ h)
+
+pub none_unprintable : (text : List ℕ) → list_all is_printable text ≡ true → position (λ b. not (is_printable b)) text ≡ None
+none_unprintable text h = position_from-zero (λ b. not (is_printable b)) text ∙ none_fails is_printable 0 text h
+
+-- a text that reads fits its column
+pub read_text_fits : (k : ℕ) (text : List ℕ) (v : Value) → k ≤ 16 → text_value k text ≡ Ok v → Fits (Text k) v
+read_text_fits k text v few h =
+    elim (cases_le (length text) k) [
+      | inl short ↦ by_bytes (position (λ b. not (is_printable b)) text) refl short (let test : nat_le (length text) k ≡ true = grind (arith, nat_tests) in rw test at h)
+      | inr long ↦ let test : nat_le (length text) k ≡ false = grind (arith, nat_tests) in let bad = rw test at h in absurd cc
+    ]
+  where
+    cases_le : (m n : ℕ) → (m ≤ n) ⊎ (n < m)
+    cases_le m n = elim (cases_lt n m) [ inl lt ↦ inr lt | inr ge ↦ inl ge ]
+
+    by_bytes : (o : Option ℕ) → position (λ b. not (is_printable b)) text ≡ o → length text ≤ k → bad_byte_value k text o ≡ Ok v → Fits (Text k) v
+    by_bytes None e short g =
+        let printable = all_printable text e in
+        let kept : unpadded 16 (padded 16 text) ≡ text = unpadded-padded 16 text (printable, omega arith) in
+        let same : v ≡ value.Text (padded 16 text) = cc in
+        rw (same, kept) (printable, short)
+    by_bytes (Some i) e short g = absurd cc
+
+pub text_fits : (k : ℕ) (text : List ℕ) (r : Result Value ValueFault) → k ≤ 16 → r ≡ text_value k text → IfOk r (Fits (Text k))
+text_fits k text (Ok v) few e = read_text_fits k text v few (sym e)
+text_fits k text (Err f) few e = tt

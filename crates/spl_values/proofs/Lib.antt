@@ -1,0 +1,5 @@
+pub mod Powers
+pub mod Padded
+pub mod CodeLaws
+pub mod CellLaws
+pub mod RowLaws
