@@ -3,3 +3,7 @@ pub mod Padded
 pub mod CodeLaws
 pub mod CellLaws
 pub mod RowLaws
+pub mod LineCuts
+pub mod ShapeReading
+pub mod ShapeLaws
+pub mod ShapePrinting

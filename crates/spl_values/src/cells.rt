@@ -25,8 +25,8 @@ fn all_digits(text: &[u8]) -> bool
     text.iter().all(|byte| is_digit(*byte))
 }
 
-// Whether a text is one or more decimal digits.
-fn is_number(text: &[u8]) -> bool
+/// Whether a text is one or more decimal digits.
+pub fn is_number(text: &[u8]) -> bool
     ensures { result ≡ is_number text.now }
 {
     !text.is_empty() && all_digits(text)
