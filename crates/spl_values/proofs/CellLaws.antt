@@ -1,23 +1,29 @@
 -- Laws of values as texts.
-use Rattle.std.proofs.Common.{◌≡◌, ℕ, ◌+◌, ◌^◌, ◌<◌, ◌≤◌, Bool, true, false, not, ◌&&◌, nat_le, List, [], ◌∷◌, length, position, Option, Some, None, Result, Ok, Err, IfOk, refl, sym, ◌∙◌, arith, cond, nat_lt, ◌⊎◌, inl, inr}
+use Rattle.std.proofs.Common.{◌≡◌, ℕ, zero, suc, get_or, ap, IsTrue, ◌+◌, ◌^◌, ◌<◌, ◌≤◌, Bool, true, false, not, ◌&&◌, ◌||◌, nat_le, List, [], ◌∷◌, length, position, Option, Some, None, Result, Ok, Err, IfOk, refl, sym, ◌∙◌, arith, cond, nat_lt, ◌⊎◌, inl, inr}
 use Rattle.std.specs.Char.{is_ascii_digit}
 use Rattle.std.specs.Int.{IsInRange}
 use Rattle.std.specs.Fmt.{decimal}
-use Rattle.std.specs.List.{list_all, position_from}
+use Rattle.std.specs.List.{list_all, list_any, position_from}
 use Rattle.std.proofs.lemmas.Bool.{cases_lt}
 use Rattle.std.proofs.lemmas.Iterator.Adapters.{position_from-zero}
-use Rattle.std.specs.Str.{IsAscii}
+use Rattle.std.specs.Str.{IsAscii, bytes_eq}
 use Rattle.std.specs.Str.Parse.{digits_value}
 use Rattle.std.proofs.lemmas.Str.Parse.{IsDigitsTest, IsNumeralModel, numerals_by_value}
 use Rattle.std.proofs.lemmas.Fmt.{digits_decimal, digits_value-decimal, decimal_nonempty, IsAscii-from_digits}
 use Rattle.std.proofs.lemmas.Bool.Decides.{nat_tests}
-use Rattle.spl_values.specs.CellTexts.{is_number, text_value, bad_byte_value}
-use Rattle.spl_values.specs.Kinds.{is_printable, Fits, padded, unpadded}
-use Rattle.spl_values.specs.declared.kinds.ColumnType.TheVariants.{Text}
+use Rattle.spl_values.specs.CellTexts.{is_number, text_value, bad_byte_value, label_value, value_of_text, text_of_value}
+use Rattle.spl_values.specs.Names.{is_distinct}
+use Rattle.spl_values.specs.Kinds.{is_kind, is_printable, Fits, padded, unpadded, text_of}
+use Rattle.spl_values.specs.declared.kinds.ColumnType.{ColumnType}
+use Rattle.spl_values.specs.declared.kinds.ColumnType.TheVariants.{Uint, Text, Enum}
 use Rattle.spl_values.specs.declared.values.Value.{Value}
 use Rattle.spl_values.specs.declared.values.Value.TheVariants as value
 use Rattle.spl_values.specs.declared.values.ValueFault.{ValueFault}
-use Rattle.spl_values.proofs.Padded.{unpadded-padded}
+use Rattle.spl_values.proofs.Padded.{unpadded-padded, padded-unpadded}
+use Rattle.spl_values.proofs.CodeLaws.{text-lt, number_bits}
+use Rattle.std.proofs.Math.Nat.{pow-le-pow_right}
+use Rattle.std.proofs.lemmas.Nat.{pow_pos}
+use Rattle.std.proofs.lemmas.Slice.Eq.{bytes_eq-Decides}
 
 -- digits in one's own words
 pub digits_test : IsDigitsTest (λ ds. list_all is_ascii_digit ds ≡ true)
@@ -99,3 +105,62 @@ read_text_fits k text v few h =
 pub text_fits : (k : ℕ) (text : List ℕ) (r : Result Value ValueFault) → k ≤ 16 → r ≡ text_value k text → IfOk r (Fits (Text k))
 text_fits k text (Ok v) few e = read_text_fits k text v few (sym e)
 text_fits k text (Err f) few e = tt
+
+-- a label stands at its own place, as no other is the same
+label_place : (labels : List (List ℕ)) (i k : ℕ) → is_distinct labels ≡ true → i < length labels → position_from (λ label. bytes_eq label (get_or labels i [])) k labels ≡ Some (k + i)
+label_place [] i k d h = absurd (omega arith)
+label_place (l ∷ ls) zero k d h =
+    let same = (bytes_eq-Decides l l).1 refl in
+    let e : k ≡ k + 0 = omega arith in
+    rw same (ap Some e)
+label_place (l ∷ ls) (suc i) k d h =
+    let new = not_so (list_any (bytes_eq l) ls) (first_so (not (list_any (bytes_eq l) ls)) (is_distinct ls) d) in
+    let other = not_at l ls i new (omega arith) in
+    let tail = label_place ls i (k + 1) (second_so (not (list_any (bytes_eq l) ls)) (is_distinct ls) d) (omega arith) in
+    let e : k + 1 + i ≡ k + suc i = omega arith in
+    rw other (tail ∙ ap Some e)
+  where
+    first_so : (a b : Bool) → (a && b) ≡ true → a ≡ true
+    first_so true b h = refl
+    first_so false b h = absurd cc
+
+    second_so : (a b : Bool) → (a && b) ≡ true → b ≡ true
+    second_so true b h = h
+    second_so false b h = absurd cc
+
+    not_so : (a : Bool) → not a ≡ true → a ≡ false
+    not_so true h = absurd cc
+    not_so false h = refl
+
+    not_at : (l : List ℕ) (ls : List (List ℕ)) (i : ℕ) → list_any (bytes_eq l) ls ≡ false → i < length ls → bytes_eq l (get_or ls i []) ≡ false
+    not_at l [] i h k = absurd (omega arith)
+    not_at l (m ∷ ls) zero h k = elim (bytes_eq l m) as (λ b. (b || list_any (bytes_eq l) ls) ≡ false → b ≡ false) [ true ↦ λ e. absurd cc | false ↦ λ e. refl ] h
+    not_at l (m ∷ ls) (suc i) h k = not_at l ls i (rest_not (bytes_eq l m) (list_any (bytes_eq l) ls) h) (omega arith)
+      where
+        rest_not : (a b : Bool) → (a || b) ≡ false → b ≡ false
+        rest_not true b e = absurd cc
+        rest_not false b e = e
+
+pub printed_values_read : (kind : ColumnType) (v : Value) → IsTrue (is_kind kind) → Fits kind v → value_of_text kind (text_of_value kind v) ≡ Ok v
+printed_values_read (Uint b) (value.Number n) typed h =
+    let bits = number_bits b typed in
+    let most : 2 ^ b ≤ 2 ^ 64 = pow-le-pow_right (pow_pos 1) bits.1 in
+    let small : n < 2 ^ 64 = omega (arith, h, most) in
+    let less : nat_lt n (2 ^ b) ≡ true = grind (arith, nat_tests) in
+    rw (decimal_is_number n small, decimal_value n small, less) refl
+printed_values_read (Uint b) (value.Text n) typed h = absurd h
+printed_values_read (Uint b) (value.Label n) typed h = absurd h
+printed_values_read (Text k) (value.Number n) typed h = absurd h
+printed_values_read (Text k) (value.Text n) typed h =
+    let short : nat_le (length (text_of n)) k ≡ true = grind (arith, nat_tests) in
+    let printable = none_unprintable (text_of n) h.0 in
+    let kept = padded-unpadded 16 n (text-lt k n h) in
+    rw (short, printable, kept) refl
+printed_values_read (Text k) (value.Label n) typed h = absurd h
+printed_values_read (Enum labels) (value.Number n) typed h = absurd h
+printed_values_read (Enum labels) (value.Text n) typed h = absurd h
+printed_values_read (Enum labels) (value.Label i) typed h =
+    let distinct : is_distinct labels ≡ true = grind (arith, nat_tests) in
+    let place = label_place labels i 0 distinct h in
+    let e : 0 + i ≡ i = omega arith in
+    ap label_value (position_from-zero (λ label. bytes_eq label (get_or labels i [])) labels ∙ place ∙ ap Some e)

@@ -7,3 +7,4 @@ pub mod LineCuts
 pub mod ShapeReading
 pub mod ShapeLaws
 pub mod ShapePrinting
+pub mod ShapeRoundTrip

@@ -20,7 +20,7 @@ test_of true = inl refl
 test_of false = inr refl
 
 -- a text is another exactly where the other is it
-bytes_turned : (a b : List ℕ) → bytes_eq a b ≡ false → bytes_eq b a ≡ false
+pub bytes_turned : (a b : List ℕ) → bytes_eq a b ≡ false → bytes_eq b a ≡ false
 bytes_turned a b h =
     elim (test_of (bytes_eq b a)) [
       | inl same ↦ let e : b ≡ a = (bytes_eq-Decides b a).0 same in let f = (bytes_eq-Decides a b).1 (sym e) in absurd cc
@@ -59,7 +59,7 @@ distinct-push (x ∷ xs) y d h =
     others_not true b e = absurd cc
     others_not false b e = e
 
-any_name : (name : List ℕ) (columns : List ColumnParts) → list_any (λ d. bytes_eq name d.name) columns ≡ list_any (bytes_eq name) (names_of columns)
+pub any_name : (name : List ℕ) (columns : List ColumnParts) → list_any (λ d. bytes_eq name d.name) columns ≡ list_any (bytes_eq name) (names_of columns)
 any_name name [] = refl
 any_name name (d ∷ ds) = ap (λ b. bytes_eq name d.name || b) (any_name name ds)
 

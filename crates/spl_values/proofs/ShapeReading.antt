@@ -48,7 +48,7 @@ plain-led text long led =
 abbrev pub NotLed : List ℕ → Type 0
 NotLed text = (length text ≤ 1) ⊎ (get_or text 0 0 ≢ 48)
 
-plain-number : (text : List ℕ) → is_number text ≡ true → NotLed text → plain_number text ≡ Some (digits_value 10 text)
+pub plain-number : (text : List ℕ) → is_number text ≡ true → NotLed text → plain_number text ≡ Some (digits_value 10 text)
 unfolding plain_number
 plain-number text h led =
     let some : 0 < length text = grind (arith, nat_tests) in

@@ -1,5 +1,5 @@
 //! Laws of codes, texts and keys: each is the contract of a function that does nothing.
-ghost use Rattle.spl_values.specs.Laws.{CodesDiffer, CodesKeepOrder, CodesAreBelow};
+ghost use Rattle.spl_values.specs.Laws.{CodesDiffer, CodesKeepOrder, CodesAreBelow, PrintedValuesRead, PrintedShapesRead, ShapeTextsRead};
 
 /// Codes of different values differ.
 pub fn codes_differ()
@@ -14,4 +14,19 @@ pub fn codes_keep_order()
 /// A code has no more than its column's bits.
 pub fn codes_are_below()
     ensures { CodesAreBelow }
+{}
+
+/// A column reads a printed value as that value.
+pub fn printed_values_read()
+    ensures { PrintedValuesRead }
+{}
+
+/// The canonical text of a shape reads as that shape.
+pub fn printed_shapes_read()
+    ensures { PrintedShapesRead }
+{}
+
+/// A text whose lines are those of a shape reads as that shape.
+pub fn shape_texts_read()
+    ensures { ShapeTextsRead }
 {}
