@@ -1,5 +1,5 @@
 -- Laws of values as texts.
-use Rattle.std.proofs.Common.{◌≡◌, ℕ, zero, suc, get_or, ap, IsTrue, ◌+◌, ◌^◌, ◌<◌, ◌≤◌, Bool, true, false, not, ◌&&◌, ◌||◌, nat_le, List, [], ◌∷◌, length, position, Option, Some, None, Result, Ok, Err, IfOk, refl, sym, ◌∙◌, arith, cond, nat_lt, ◌⊎◌, inl, inr}
+use Rattle.std.proofs.Common.{◌≡◌, ℕ, zero, suc, get_or, ap, IsTrue, ◌+◌, ◌^◌, ◌<◌, ◌≤◌, Bool, true, false, not, ◌&&◌, ◌||◌, nat_le, List, [], ◌∷◌, length, position, Option, Some, None, Result, Ok, Err, IfOk, refl, sym, subst, ◌∙◌, arith, cond, nat_lt, ◌⊎◌, inl, inr}
 use Rattle.std.specs.Char.{is_ascii_digit}
 use Rattle.std.specs.Int.{IsInRange}
 use Rattle.std.specs.Fmt.{decimal}
@@ -11,7 +11,7 @@ use Rattle.std.specs.Str.Parse.{digits_value}
 use Rattle.std.proofs.lemmas.Str.Parse.{IsDigitsTest, IsNumeralModel, numerals_by_value}
 use Rattle.std.proofs.lemmas.Fmt.{digits_decimal, digits_value-decimal, decimal_nonempty, IsAscii-from_digits}
 use Rattle.std.proofs.lemmas.Bool.Decides.{nat_tests}
-use Rattle.spl_values.specs.CellTexts.{is_number, text_value, bad_byte_value, label_value, value_of_text, text_of_value}
+use Rattle.spl_values.specs.CellTexts.{is_number, text_value, bad_byte_value, number_value, label_value, value_of_text, text_of_value}
 use Rattle.spl_values.specs.Names.{is_distinct}
 use Rattle.spl_values.specs.Kinds.{is_kind, is_printable, Fits, padded, unpadded, text_of}
 use Rattle.spl_values.specs.declared.kinds.ColumnType.{ColumnType}
@@ -19,8 +19,10 @@ use Rattle.spl_values.specs.declared.kinds.ColumnType.TheVariants.{Uint, Text, E
 use Rattle.spl_values.specs.declared.values.Value.{Value}
 use Rattle.spl_values.specs.declared.values.Value.TheVariants as value
 use Rattle.spl_values.specs.declared.values.ValueFault.{ValueFault}
+use Rattle.spl_values.specs.declared.values.ValueFault.TheVariants as fault
 use Rattle.spl_values.proofs.Padded.{unpadded-padded, padded-unpadded}
-use Rattle.spl_values.proofs.CodeLaws.{text-lt, number_bits}
+use Rattle.spl_values.proofs.CodeLaws.{text-lt, number_bits, text_bytes}
+use Rattle.std.proofs.lemmas.List.Quantifiers.{position-Some}
 use Rattle.std.proofs.Math.Nat.{pow-le-pow_right}
 use Rattle.std.proofs.lemmas.Nat.{pow_pos}
 use Rattle.std.proofs.lemmas.Slice.Eq.{bytes_eq-Decides}
@@ -164,3 +166,25 @@ printed_values_read (Enum labels) (value.Label i) typed h =
     let place = label_place labels i 0 distinct h in
     let e : 0 + i ≡ i = omega arith in
     ap label_value (position_from-zero (λ label. bytes_eq label (get_or labels i [])) labels ∙ place ∙ ap Some e)
+
+-- what is read in a column fits it
+pub read_values_fit : (kind : ColumnType) (text : List ℕ) (v : Value) → is_kind kind ≡ true → value_of_text kind text ≡ Ok v → Fits kind v
+read_values_fit (Uint b) text v typed e = by_number (is_number text) (nat_lt (digits_value 10 text) (2 ^ b)) refl e
+  where
+    by_number : (t u : Bool) → nat_lt (digits_value 10 text) (2 ^ b) ≡ u
+        → number_value (cond t (cond u (Ok (digits_value 10 text)) (Err fault.TooLarge)) (Err fault.NotANumber)) ≡ Ok v → Fits (Uint b) v
+    by_number true true h k =
+        let same : value.Number (digits_value 10 text) ≡ v = cc in
+        let less : digits_value 10 text < 2 ^ b = grind (arith, nat_tests) in
+        subst (λ (w : Value). Fits (Uint b) w) same less
+    by_number true false h k = absurd cc
+    by_number false u h k = absurd cc
+read_values_fit (Text k) text v typed e = read_text_fits k text v (text_bytes k typed).1 e
+read_values_fit (Enum labels) text v typed e = by_place (position (λ label. bytes_eq label text) labels) refl e
+  where
+    by_place : (o : Option ℕ) → position (λ label. bytes_eq label text) labels ≡ o → label_value o ≡ Ok v → Fits (Enum labels) v
+    by_place (Some i) h k =
+        let same : value.Label i ≡ v = cc in
+        let within = position-Some (λ label. bytes_eq label text) labels i [] h in
+        subst (λ (w : Value). Fits (Enum labels) w) same within.0
+    by_place None h k = absurd cc
