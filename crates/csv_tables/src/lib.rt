@@ -1,0 +1,10 @@
+//! Tables as comma-separated values: reading, writing and their digest.
+#![tactic(auto)]
+
+mod fault;
+mod reading;
+mod table_reader;
+mod writing;
+
+pub use fault::TableFault;
+pub use table_reader::read_table;
