@@ -8,3 +8,4 @@ mod writing;
 
 pub use fault::TableFault;
 pub use table_reader::read_table;
+pub use writing::{table_digest, write_table};
