@@ -4,6 +4,8 @@
 mod fault;
 mod reading;
 mod table_reader;
+#[cfg(test)]
+mod tests;
 mod writing;
 
 pub use fault::TableFault;

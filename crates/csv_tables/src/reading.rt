@@ -93,7 +93,7 @@ fn push_row(
     }
     for (place, column) in columns.iter().enumerate() {
         let Some(field) = record.get(place) else {
-            return Err(TableFault::RowLength(row));
+            unreachable!("there is a field for each column");
         };
         let value = cell_value(column, field, row, place as u32)?;
         push(cells, value)?;

@@ -13,10 +13,10 @@ returns-then-len-columns-clause-err c _ =
     let row : c.unwrap_or-row.result ≡ row_number c.args.number = c.unwrap_or-row.ensures ∙ row_number-capped c.try_from.result c.args.number c.try_from.ensures in
     row-short c.args.number c.args.columns.now (fields_of c.args.record.now) (λ e. c.if-len-columns.true (c.len.ensures ∙ e)) ∙ ap (λ n. Err (fault.RowLength n)) (sym row)
 
-pub returns-in_default-clause-err : goal.returns-in_default-clause-err
-returns-in_default-clause-err c _ =
+pub unreachable-requires : goal.unreachable-requires
+unreachable-requires c =
     let past = field-past (fields_of c.args.record.now) c.loop-place.place c.in_default.ensures.value in
-    absurd (omega (arith, past, c.len.ensures, c.if-len-columns.false, c.loop-place-test.true))
+    omega (arith, past, c.len.ensures, c.if-len-columns.false, c.loop-place-test.true)
 
 pub returns-in_err-value-clause-err : goal.returns-in_err-value-clause-err
 returns-in_err-value-clause-err c =
