@@ -1,0 +1,13 @@
+//! Tables as comma-separated values: reading, writing and their digest.
+#![tactic(auto)]
+
+mod fault;
+mod reading;
+mod table_reader;
+#[cfg(test)]
+mod tests;
+mod writing;
+
+pub use fault::TableFault;
+pub use table_reader::read_table;
+pub use writing::{table_digest, write_table};

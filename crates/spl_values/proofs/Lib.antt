@@ -1,0 +1,10 @@
+pub mod Powers
+pub mod Padded
+pub mod CodeLaws
+pub mod CellLaws
+pub mod RowLaws
+pub mod LineCuts
+pub mod ShapeReading
+pub mod ShapeLaws
+pub mod ShapePrinting
+pub mod ShapeRoundTrip
