@@ -1,5 +1,5 @@
 -- The one question that is built: in how many rows of the table `t` the column `a` has the parameter's value.
-use Rattle.std.specs.Prelude.{◌≡◌, ℕ, ◌^◌, ◌<◌, ◌≤◌, List, length, position, slice_get, codes, Option, Some, None, Result, Ok, Err, option_map, ok_or, if◌then◌else◌}
+use Rattle.std.specs.Prelude.{◌≡◌, ℕ, ◌^◌, ◌<◌, ◌≤◌, List, length, position, slice_get, codes, Option, Some, None, Result, Ok, option_map, ok_or, if◌then◌else◌}
 use Rattle.std.specs.Result.{result_ok}
 use Rattle.std.specs.Str.{bytes_eq}
 use Rattle.spl_words.specs.Results.{◌>>=◌}

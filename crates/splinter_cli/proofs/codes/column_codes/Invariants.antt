@@ -1,4 +1,4 @@
-use Rattle.std.proofs.Common.{◌≡◌, ◌≤◌, ◌<◌, ◌^◌, map, take, All, vec_len, vec_capacity}
+use Rattle.std.proofs.Common.{◌≡◌, ◌<◌, ◌^◌, map, take, All}
 use Rattle.spl_values.specs.Tables.{column_bits, column_code}
 use Rattle.splinter_cli.proofs.codes.column_codes.Given as goal
 

@@ -1,4 +1,3 @@
-use Rattle.std.proofs.Common.{ap}
 use Rattle.splinter_cli.proofs.Bits.{some_bits, few_bits}
 use Rattle.splinter_cli.proofs.questions.bits_of.Goals as goal
 
