@@ -8,7 +8,6 @@ use Rattle.splinter_cli.specs.declared.status.Stopped.{Stopped}
 use Rattle.splinter_cli.specs.declared.status.Stopped.TheVariants as stopped
 use Rattle.std.specs.Prelude.{IfSome}
 use Rattle.spl_outside.specs.Content.{FileMap}
-use Rattle.splinter_cli.specs.declared.status.FormFault.{FormFault}
 use Rattle.splinter_cli.specs.Commands.{Ready, Order, judged, draws}
 use Rattle.splinter_cli.specs.Ends.{end_of, status_of, Reports}
 use Rattle.splinter_cli.specs.Meets.{Meets, Refuses, LeftAfter}
@@ -38,7 +37,7 @@ cut_line ready words before text ended result now may quiet other is (inr (inr h
     let both : status.OutputFault ≡ status.OutOfMemory = sym is ∙ h.0 in absurd cc
 
 -- the same over what is told
-pub cut_stopped : (T : Type 0) (text : T → List ℕ) (files : Option FileMap) (order : Result Order FormFault) (words left sink : Option (List ℕ)) (s : Stopped) (result : Status) (now : Option (List ℕ))
+pub cut_stopped : (T : Type 0) (text : T → List ℕ) (files : Option FileMap) (order : Option Order) (words left sink : Option (List ℕ)) (s : Stopped) (result : Status) (now : Option (List ℕ))
     → IfSome files (λ m. Meets {T = T} text (judged order m) words left (Err s)) → IfSome sink (λ w. Reports w (line_of (end_of s)) (end_of s) result now)
     → end_of s ≢ status.OutputFault → (end_of s ≡ status.OutOfMemory → result ≡ status.OutOfMemory) → result ≡ status.OutputFault
     → IfSome files (λ m. IfSome sink (λ w. Cuts (judged order m) words w now))
@@ -48,7 +47,7 @@ cut_stopped T text (Some m) order words left (Some w) s result now meets reports
     cut_line (judged order m) words w (line_of (end_of s)) (end_of s) result now (λ some. may_print T (judged order m) words s some meets.refuses) quiet other is reports
 
 -- what a command that stopped drew
-pub drawn_stopped : (T : Type 0) (text : T → List ℕ) (files : Option FileMap) (order : Result Order FormFault) (words left : Option (List ℕ)) (s : Stopped)
+pub drawn_stopped : (T : Type 0) (text : T → List ℕ) (files : Option FileMap) (order : Option Order) (words left : Option (List ℕ)) (s : Stopped)
     → IfSome files (λ m. Meets {T = T} text (judged order m) words left (Err s)) → IfSome files (λ m. IfSome words (λ ws. LeftAfter (draws (judged order m)) ws left))
 drawn_stopped T text None order words left s meets = tt
 drawn_stopped T text (Some m) order words left s meets = meets.tells

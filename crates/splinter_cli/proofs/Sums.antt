@@ -1,5 +1,5 @@
 -- Sums modulo 2 ^ 64, and what the two providers' sums come to.
-use Rattle.std.proofs.Common.{◌≡◌, ℕ, suc, ◌+◌, ◌%◌, ◌^◌, ◌<◌, nat_eq, List, [], ◌∷◌, length, get_or, refl, sym, ap, ◌∙◌, add-zero, arith}
+use Rattle.std.proofs.Common.{◌≡◌, ℕ, suc, ◌+◌, ◌%◌, ◌^◌, ◌<◌, nat_eq, List, [], ◌∷◌, length, get_or, All, refl, sym, ap, ◌∙◌, add-zero, arith}
 use Rattle.std.specs.Prelude.{sum_by}
 use Rattle.std.proofs.Math.Nat.{add-mod-mod, mod-add-mod, mod-eq_of_lt}
 use Rattle.std.proofs.lemmas.List.Sums.{sum_by-cons, count_by-le-length}
@@ -36,14 +36,14 @@ both f g h (x ∷ xs) each =
     ∙ add-mod-mod (h x) (sum_by h xs) (2 ^ 64))
 
 -- the sums of both providers add up to the count
-pub sums_count : PointSharesAdd chacha → (parameter : ℕ) (roots : ℕ × ℕ) (numbers : List ℕ) → parameter < 2 ^ 16 → length numbers < 2 ^ 64
-    → ((k : ℕ) → k < length numbers → get_or numbers k 0 < 2 ^ 16)
-    → plus (share_sum Zero parameter roots numbers) (share_sum One parameter roots numbers) ≡ count_of parameter numbers
+pub sums_count : PointSharesAdd chacha → (bits code : ℕ) (roots : ℕ × ℕ) (codes : List ℕ) → code < 2 ^ bits → length codes < 2 ^ 64
+    → All (λ c. c < 2 ^ bits) codes
+    → plus (share_sum Zero (secret_of bits code) roots codes) (share_sum One (secret_of bits code) roots codes) ≡ count_of code codes
 unfolding share_sum
-sums_count law parameter roots numbers small short each =
-    let f : ℕ → ℕ = share_at Zero parameter roots in
-    let g : ℕ → ℕ = share_at One parameter roots in
-    let at_most = count_by-le-length (λ n. nat_eq n parameter) numbers in
-    mod-add-mod (sum_by f numbers) (2 ^ 64) (sum_by g numbers % 2 ^ 64) ∙ add-mod-mod (sum_by f numbers) (sum_by g numbers) (2 ^ 64)
-    ∙ both f g (point_value parameter 1) numbers (λ k below. law 0 (secret_of parameter) roots (get_or numbers k 0) small (omega arith) (each k below))
+sums_count law bits code roots codes small short each =
+    let f : ℕ → ℕ = share_at Zero (secret_of bits code) roots in
+    let g : ℕ → ℕ = share_at One (secret_of bits code) roots in
+    let at_most = count_by-le-length (λ n. nat_eq n code) codes in
+    mod-add-mod (sum_by f codes) (2 ^ 64) (sum_by g codes % 2 ^ 64) ∙ add-mod-mod (sum_by f codes) (sum_by g codes) (2 ^ 64)
+    ∙ both f g (point_value code 1) codes (λ k below. law 0 (secret_of bits code) roots (get_or codes k 0) small (omega arith) (each k 0 below))
     ∙ mod-eq_of_lt (omega (arith, at_most, short))

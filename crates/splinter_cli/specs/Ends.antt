@@ -6,23 +6,16 @@ use Rattle.splinter_cli.specs.declared.status.Refusal.{Refusal}
 use Rattle.splinter_cli.specs.declared.status.Refusal.TheVariants as refusal
 use Rattle.splinter_cli.specs.declared.status.Stopped.{Stopped}
 use Rattle.splinter_cli.specs.declared.status.Stopped.TheVariants as stopped
-use Rattle.splinter_cli.specs.declared.status.FormFault.{FormFault}
-use Rattle.splinter_cli.specs.declared.status.FormFault.TheVariants as form
 use Rattle.splinter_cli.specs.declared.status.InputStop.TheVariants as input
-use Rattle.splinter_cli.specs.declared.status.Part.TheVariants as part
-
--- the status of a refusal by the words
-abbrev pub form_status : FormFault → Status
-form_status form.Usage = status.Usage
-form_status form.Query = status.NotBuilt part.Query
-form_status form.Parameter = status.NotBuilt part.Parameter
 
 -- the status of a refusal
 abbrev pub status_of : Refusal → Status
-status_of (refusal.Form f) = form_status f
+status_of refusal.Usage = status.Usage
+status_of (refusal.Shape fault) = status.Shape fault
+status_of (refusal.Table fault) = status.Table fault
 status_of (refusal.MissingFile name) = status.MissingFile name
 status_of (refusal.FileTooLong name) = status.FileTooLong name
-status_of refusal.Table = status.NotBuilt part.Table
+status_of (refusal.NotBuilt p) = status.NotBuilt p
 
 -- the status of a command that stopped early
 abbrev pub end_of : Stopped → Status

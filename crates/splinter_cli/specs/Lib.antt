@@ -1,6 +1,6 @@
-pub mod Numbers
-pub mod Digits
 pub mod Phases
+pub mod Reads
+pub mod Questions
 pub mod Shares
 pub mod Texts
 pub mod Commands

@@ -1,19 +1,17 @@
 -- How the error of a step becomes that of the phase round it.
-use Rattle.splinter_cli.specs.declared.status.TableStop.{TableStop}
-use Rattle.splinter_cli.specs.declared.status.TableStop.TheVariants as table
-use Rattle.splinter_cli.specs.declared.status.InputStop.{InputStop}
-use Rattle.splinter_cli.specs.declared.status.InputStop.TheVariants as input
 use Rattle.std.specs.Prelude.{◌≡◌, ℕ, List, Result, Ok, Err}
 use Rattle.std.specs.Global.{Vec}
+use Rattle.spl_values.specs.declared.shape_reader.ShapeFault.TheVariants as shape
+use Rattle.csv_tables.specs.declared.fault.TableFault.TheVariants as table
+use Rattle.splinter_cli.specs.declared.status.InputStop.{InputStop}
+use Rattle.splinter_cli.specs.declared.status.InputStop.TheVariants as input
+use Rattle.splinter_cli.specs.declared.status.Part.TheVariants as part
 use Rattle.splinter_cli.specs.declared.status.ReadStop.{ReadStop}
 use Rattle.splinter_cli.specs.declared.status.ReadStop.TheVariants as read
 use Rattle.splinter_cli.specs.declared.status.Refusal.{Refusal}
 use Rattle.splinter_cli.specs.declared.status.Refusal.TheVariants as refusal
-
--- a text that is no table is a refusal
-abbrev pub table_stop : TableStop → InputStop
-table_stop table.NotNumbers = input.Refused refusal.Table
-table_stop table.OutOfMemory = input.OutOfMemory
+use Rattle.splinter_cli.specs.declared.status.Stopped.{Stopped}
+use Rattle.splinter_cli.specs.declared.status.Stopped.TheVariants as stopped
 
 -- a file that isn't held or is too long is a refusal
 abbrev pub read_stop : ReadStop → InputStop
@@ -36,3 +34,22 @@ Gives view (Ok x) step = step ≡ Ok (view x)
 Gives view (Err (input.Refused r)) step = step ≡ Err r
 Gives view (Err input.FileFault) step = Unit {0}
 Gives view (Err input.OutOfMemory) step = Unit {0}
+
+-- a refusal of what files hold: the words form a command, no fault in it is want of memory, and each table and each plan has a form that is built
+abbrev pub IsOfFiles : Refusal → Type 0
+IsOfFiles refusal.Usage = ⊥
+IsOfFiles (refusal.Shape shape.OutOfMemory) = ⊥
+IsOfFiles (refusal.Table table.OutOfMemory) = ⊥
+IsOfFiles (refusal.NotBuilt part.Table) = ⊥
+IsOfFiles (refusal.NotBuilt part.Plan) = ⊥
+IsOfFiles _ = Unit {0}
+
+-- a refusal here is one of what files hold
+abbrev pub StopsAtFiles : InputStop → Type 0
+StopsAtFiles (input.Refused r) = IsOfFiles r
+StopsAtFiles _ = Unit {0}
+
+-- the same for a command
+abbrev pub EndsAtFiles : Stopped → Type 0
+EndsAtFiles (stopped.Input s) = StopsAtFiles s
+EndsAtFiles _ = Unit {0}

@@ -21,23 +21,23 @@ wide_at i words = word_at i words * 2 ^ 64 + word_at (i + 1) words
 abbrev pub roots_of : List ℕ → ℕ × ℕ
 roots_of words = (wide_at 2 words, wide_at 4 words)
 
--- the secret of a parameter: the word 1 at its number of 16 bits
-abbrev pub secret_of : ℕ → Secret
-secret_of parameter = record { kind = Point; depth = 16; alpha = parameter; beta = 1 }
+-- the secret of a code: the word 1 at it, among the numbers of so many bits
+abbrev pub secret_of : ℕ → ℕ → Secret
+secret_of bits code = record { kind = Point; depth = bits; alpha = code; beta = 1 }
 
--- a provider's key of that secret, in the tree 0 under ChaCha
-abbrev pub key_of : Provider → ℕ → ℕ × ℕ → PointKey
-key_of Zero parameter roots = (point_keys chacha 0 (secret_of parameter) roots).0
-key_of One parameter roots = (point_keys chacha 0 (secret_of parameter) roots).1
+-- a provider's key of a secret, in the tree 0 under ChaCha
+abbrev pub key_of : Provider → Secret → ℕ × ℕ → PointKey
+key_of Zero secret roots = (point_keys chacha 0 secret roots).0
+key_of One secret roots = (point_keys chacha 0 secret roots).1
 
--- a provider's share at a number, under its key
-abbrev pub share_at : Provider → ℕ → ℕ × ℕ → ℕ → ℕ
-share_at p parameter roots number = point_share chacha p 0 (key_of p parameter roots) number
+-- a provider's share at a code, under its key
+abbrev pub share_at : Provider → Secret → ℕ × ℕ → ℕ → ℕ
+share_at p secret roots code = point_share chacha p 0 (key_of p secret roots) code
 
--- what a provider answers: the sum of its shares at the numbers, modulo 2 ^ 64
-unfoldable pub share_sum : Provider → ℕ → ℕ × ℕ → List ℕ → ℕ
-share_sum p parameter roots numbers = sum_by (share_at p parameter roots) numbers % 2 ^ 64
+-- what a provider answers: the sum of its shares at the codes, modulo 2 ^ 64
+unfoldable pub share_sum : Provider → Secret → ℕ × ℕ → List ℕ → ℕ
+share_sum p secret roots codes = sum_by (share_at p secret roots) codes % 2 ^ 64
 
--- how many numbers are the parameter
+-- how many of the codes are this one; codes of different values differ, so it is the number of the rows that have the value of this code
 abbrev pub count_of : ℕ → List ℕ → ℕ
-count_of parameter numbers = count_by (λ n. n == parameter) numbers
+count_of code codes = count_by (λ c. c == code) codes

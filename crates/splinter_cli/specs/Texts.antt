@@ -1,6 +1,12 @@
 -- The texts that are printed.
 use Rattle.std.specs.Prelude.{ℕ, List, [], ◌++◌, codes}
 use Rattle.std.specs.Fmt.{decimal}
+use Rattle.spl_values.specs.declared.shape_reader.ShapeFault.{ShapeFault}
+use Rattle.spl_values.specs.declared.shape_reader.ShapeFault.TheVariants as shape
+use Rattle.spl_values.specs.declared.values.ValueFault.{ValueFault}
+use Rattle.spl_values.specs.declared.values.ValueFault.TheVariants as value
+use Rattle.csv_tables.specs.declared.fault.TableFault.{TableFault}
+use Rattle.csv_tables.specs.declared.fault.TableFault.TheVariants as table
 use Rattle.splinter_cli.specs.declared.status.Status.{Status}
 use Rattle.splinter_cli.specs.declared.status.Status.TheVariants as status
 use Rattle.splinter_cli.specs.declared.status.Part.{Part}
@@ -18,10 +24,36 @@ part_text part.Query = codes "query"
 part_text part.Parameter = codes "parameter"
 part_text part.Plan = codes "plan"
 
+-- why a text describes no shape
+abbrev pub shape_fault_text : ShapeFault → List ℕ
+shape_fault_text (shape.BadLine n) = codes "line " ++ (decimal n ++ codes ": bad")
+shape_fault_text (shape.SameName n) = codes "line " ++ (decimal n ++ codes ": same name")
+shape_fault_text (shape.TooManyColumns n) = codes "line " ++ (decimal n ++ codes ": too many columns")
+shape_fault_text shape.TooManyRows = codes "line 2: too many rows"
+shape_fault_text shape.OutOfMemory = []
+
+-- why a text is no value of a column
+abbrev pub value_fault_text : ValueFault → List ℕ
+value_fault_text value.NotANumber = codes "not a number"
+value_fault_text value.TooLarge = codes "too large"
+value_fault_text (value.TooLong n) = codes "too long"
+value_fault_text (value.BadByte i) = codes "bad byte"
+value_fault_text value.NoSuchLabel = codes "no such label"
+
+-- why a text has no table of a shape
+abbrev pub table_fault_text : TableFault → List ℕ
+table_fault_text table.BadHeader = codes "bad header"
+table_fault_text (table.RowLength row) = codes "row " ++ (decimal row ++ codes ": length")
+table_fault_text (table.BadCell row column fault) = codes "row " ++ (decimal row ++ (codes ", column " ++ (decimal column ++ (codes ": " ++ value_fault_text fault))))
+table_fault_text (table.RowCount found stated) = decimal found ++ (codes " rows, not " ++ decimal stated)
+table_fault_text table.OutOfMemory = []
+
 -- what a status says
 abbrev pub status_text : Status → List ℕ
 status_text status.Done = []
 status_text status.Usage = codes "usage"
+status_text (status.Shape fault) = codes "shape: " ++ shape_fault_text fault
+status_text (status.Table fault) = codes "table: " ++ table_fault_text fault
 status_text (status.MissingFile name) = codes "no file " ++ name
 status_text status.FileFault = codes "file fault"
 status_text status.OutputFault = []
@@ -48,6 +80,8 @@ HasLine s = Unit {0}
 abbrev pub status_number : Status → ℕ
 status_number status.Done = 0
 status_number status.Usage = 2
+status_number (status.Shape fault) = 5
+status_number (status.Table fault) = 6
 status_number (status.MissingFile name) = 11
 status_number status.FileFault = 12
 status_number status.OutputFault = 13

@@ -1,13 +1,11 @@
 //! How the error of a step becomes that of the phases round it.
 ghost use Rattle.std.specs.Prelude.{◌≡◌};
 ghost use Rattle.splinter_cli.specs.declared.status.InputStop.TheVariants as input;
-ghost use Rattle.splinter_cli.specs.declared.status.Refusal.TheVariants as refusal;
 ghost use Rattle.splinter_cli.specs.declared.status.ReadStop.TheVariants as read;
-ghost use Rattle.splinter_cli.specs.declared.status.TableStop.TheVariants as table;
-ghost use Rattle.splinter_cli.specs.Phases.{table_stop, read_stop};
+ghost use Rattle.splinter_cli.specs.Phases.{read_stop};
 ghost use Rattle.splinter_cli.specs.declared.status.Stopped.TheVariants as stopped;
 
-use crate::status::{InputStop, ReadStop, Refusal, Stopped, TableStop};
+use crate::status::{InputStop, ReadStop, Refusal, Stopped};
 use spl_outside::Failed;
 use std::alloc::AllocError;
 
@@ -32,30 +30,11 @@ impl From<ReadStop> for InputStop {
     }
 }
 
-impl From<AllocError> for TableStop {
-    ghost from_gives = { λ _ e. e ≡ table.OutOfMemory };
+impl From<Refusal> for InputStop {
+    ghost from_gives = { λ r e. e ≡ input.Refused r };
 
-    fn from(_: AllocError) -> Self {
-        TableStop::OutOfMemory
-    }
-}
-
-impl From<TableStop> for InputStop {
-    ghost from_gives = { λ s e. e ≡ table_stop s };
-
-    fn from(stop: TableStop) -> Self {
-        match stop {
-            TableStop::NotNumbers => InputStop::Refused(Refusal::Table),
-            TableStop::OutOfMemory => InputStop::OutOfMemory,
-        }
-    }
-}
-
-impl From<AllocError> for InputStop {
-    ghost from_gives = { λ _ e. e ≡ input.OutOfMemory };
-
-    fn from(_: AllocError) -> Self {
-        InputStop::OutOfMemory
+    fn from(refusal: Refusal) -> Self {
+        InputStop::Refused(refusal)
     }
 }
 

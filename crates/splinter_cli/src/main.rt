@@ -1,13 +1,13 @@
 //! Private SQL over two providers: the command line.
 #![tactic(auto)]
 
+mod codes;
 mod commands;
 mod convert;
-mod digits;
 mod dispatch;
 mod draws;
 mod host;
-mod name;
+mod questions;
 mod report;
 mod run;
 mod shares;
@@ -15,6 +15,7 @@ mod status;
 mod steps;
 #[cfg(test)]
 mod tests;
+mod texts;
 mod trace;
 
 use std::alloc::Global;

@@ -1,49 +1,13 @@
 //! The last step of a command: it prints its text, or the line of its refusal.
-ghost use Rattle.std.specs.Prelude.{◌≡◌, ◌≢◌, IfSome, IfOk};
-ghost use Rattle.std.specs.String.{string_bytes};
+ghost use Rattle.std.specs.Prelude.{◌≡◌, ◌≢◌, IfSome};
 ghost use Rattle.spl_outside.specs.Causes.{HasCause};
 ghost use Rattle.splinter_cli.specs.Ends.{Reports, EndsAs, status_of, end_of};
-ghost use Rattle.splinter_cli.specs.Texts.{line_of, part_text, status_number};
+ghost use Rattle.splinter_cli.specs.Texts.{line_of, status_number};
 
-use crate::status::{FormFault, InputStop, Part, Refusal, Status, Stopped};
+use crate::status::{InputStop, Refusal, Status, Stopped};
+use crate::texts::line;
 use spl_outside::{Sink, Stop};
-use std::alloc::{AllocError, Global};
-
-fn part_name(part: Part) -> &'static str
-    ensures { result.now ≡ part_text part }
-{
-    match part {
-        Part::Table => "table",
-        Part::Shape => "shape",
-        Part::Query => "query",
-        Part::Parameter => "parameter",
-        Part::Plan => "plan",
-    }
-}
-
-/// The line of a status; empty where it has none.
-fn line(alloc: Global, status: &Status) -> Result<String, AllocError>
-    ensures { IfOk result (λ t. string_bytes t ≡ line_of status.now) }
-{
-    match status {
-        Status::Done | Status::OutputFault | Status::OutOfMemory => Ok(String::new(alloc)),
-        Status::Usage => format!(in alloc; "splinter: usage\n"),
-        Status::MissingFile(name) => {
-            let name = name.as_str();
-            format!(in alloc; "splinter: no file {name}\n")
-        }
-        Status::FileFault => format!(in alloc; "splinter: file fault\n"),
-        Status::DrawFault => format!(in alloc; "splinter: draw fault\n"),
-        Status::FileTooLong(name) => {
-            let name = name.as_str();
-            format!(in alloc; "splinter: file too long {name}\n")
-        }
-        Status::NotBuilt(part) => {
-            let part = part_name(*part);
-            format!(in alloc; "splinter: not built: {part}\n")
-        }
-    }
-}
+use std::alloc::Global;
 
 /// Prints a text, and ends with the status unless it can't be printed.
 pub fn print<O: Sink>(alloc: Global, out: &mut O, text: &str, status: Status) -> Status
@@ -62,12 +26,12 @@ fn status_of(refusal: Refusal) -> Status
     ensures { result ≡ status_of refusal }
 {
     match refusal {
-        Refusal::Form(FormFault::Usage) => Status::Usage,
-        Refusal::Form(FormFault::Query) => Status::NotBuilt(Part::Query),
-        Refusal::Form(FormFault::Parameter) => Status::NotBuilt(Part::Parameter),
+        Refusal::Usage => Status::Usage,
+        Refusal::Shape(fault) => Status::Shape(fault),
+        Refusal::Table(fault) => Status::Table(fault),
         Refusal::MissingFile(name) => Status::MissingFile(name),
         Refusal::FileTooLong(name) => Status::FileTooLong(name),
-        Refusal::Table => Status::NotBuilt(Part::Table),
+        Refusal::NotBuilt(part) => Status::NotBuilt(part),
     }
 }
 
@@ -110,6 +74,8 @@ pub fn number_of(status: &Status) -> u8
     match status {
         Status::Done => 0,
         Status::Usage => 2,
+        Status::Shape(_) => 5,
+        Status::Table(_) => 6,
         Status::MissingFile(_) => 11,
         Status::FileFault => 12,
         Status::OutputFault => 13,

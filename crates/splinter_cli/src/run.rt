@@ -1,13 +1,17 @@
 //! The top call.
-ghost use Rattle.std.specs.Prelude.{◌≡◌, ◌≢◌, ◌++◌, ℕ, List, IfSome, IfErr, IsErr, IsOk, map, Some, Err};
+ghost use Rattle.std.specs.Prelude.{◌≡◌, ◌≢◌, ◌++◌, ℕ, List, IfSome, IsErr, IsOk, map, Some, None, Err};
 ghost use Rattle.std.specs.String.{string_bytes};
 ghost use Rattle.spl_outside.specs.Causes.{HasCause};
+ghost use Rattle.spl_values.specs.declared.shape_reader.ShapeFault.{ShapeFault};
+ghost use Rattle.spl_values.specs.declared.shape_reader.ShapeFault.TheVariants as shape;
+ghost use Rattle.csv_tables.specs.declared.fault.TableFault.{TableFault};
+ghost use Rattle.csv_tables.specs.declared.fault.TableFault.TheVariants as table;
 ghost use Rattle.splinter_cli.specs.Commands.{order_of, judged, draws};
 ghost use Rattle.splinter_cli.specs.Ends.{ComesExactlyWhere, ComesWhereRead};
 ghost use Rattle.splinter_cli.specs.Meets.{LeftAfter};
 ghost use Rattle.splinter_cli.specs.Prints.{Prints, Cuts};
 ghost use Rattle.splinter_cli.specs.Texts.{HasLine, line_of};
-ghost use Rattle.splinter_cli.specs.declared.status.FormFault.TheVariants as form;
+ghost use Rattle.splinter_cli.specs.declared.status.Part.{Part};
 ghost use Rattle.splinter_cli.specs.declared.status.Part.TheVariants as part;
 ghost use Rattle.splinter_cli.specs.declared.status.Refusal.TheVariants as refusal;
 
@@ -30,18 +34,22 @@ pub fn run<F: Files, R: Draw, O: Sink>(
     out: &mut O,
 ) -> Status
     // What the words alone refuse, before anything else is touched.
-    ensures usage { ComesExactlyWhere (order_of (map string_bytes words.now.items) ≡ Err form.Usage) Status.Usage result }
-    ensures not_query { ComesExactlyWhere (order_of (map string_bytes words.now.items) ≡ Err form.Query) (Status.NotBuilt part.Query) result }
-    ensures not_parameter { ComesExactlyWhere (order_of (map string_bytes words.now.items) ≡ Err form.Parameter) (Status.NotBuilt part.Parameter) result }
-    ensures untouched { IsErr (order_of (map string_bytes words.now.items)) → (files.new ≡ files.old) × (draw.new ≡ draw.old) }
+    ensures usage { ComesExactlyWhere (order_of (map string_bytes words.now.items) ≡ None) Status.Usage result }
+    ensures untouched { order_of (map string_bytes words.now.items) ≡ None → (files.new ≡ files.old) × (draw.new ≡ draw.old) }
 
     // What the words and the files refuse, where the files are told.
+    ensures shape { IfSome (F.held files.old) (λ m. (fault : ShapeFault) → ComesWhereRead (judged (order_of (map string_bytes words.now.items)) m ≡ Err (refusal.Shape fault)) (Status.Shape fault) result) }
+    ensures table { IfSome (F.held files.old) (λ m. (fault : TableFault) → ComesWhereRead (judged (order_of (map string_bytes words.now.items)) m ≡ Err (refusal.Table fault)) (Status.Table fault) result) }
     ensures missing { IfSome (F.held files.old) (λ m. (name : List ℕ) → ComesWhereRead (judged (order_of (map string_bytes words.now.items)) m ≡ Err (refusal.MissingFile name)) (Status.MissingFile name) result) }
     ensures too_long { IfSome (F.held files.old) (λ m. (name : List ℕ) → ComesWhereRead (judged (order_of (map string_bytes words.now.items)) m ≡ Err (refusal.FileTooLong name)) (Status.FileTooLong name) result) }
-    ensures not_table { IfSome (F.held files.old) (λ m. ComesWhereRead (judged (order_of (map string_bytes words.now.items)) m ≡ Err refusal.Table) (Status.NotBuilt part.Table) result) }
+    ensures not_built { IfSome (F.held files.old) (λ m. (p : Part) → ComesWhereRead (judged (order_of (map string_bytes words.now.items)) m ≡ Err (refusal.NotBuilt p)) (Status.NotBuilt p) result) }
     ensures undrawn { IfSome (F.held files.old) (λ m. IsErr (judged (order_of (map string_bytes words.now.items)) m) → draw.new ≡ draw.old) }
-    ensures never_shape { result ≢ Status.NotBuilt part.Shape }
+
+    // What never comes: a part that has only forms that are built, and want of memory inside a fault.
+    ensures never_table { result ≢ Status.NotBuilt part.Table }
     ensures never_plan { result ≢ Status.NotBuilt part.Plan }
+    ensures never_inside_shape { result ≢ Status.Shape shape.OutOfMemory }
+    ensures never_inside_table { result ≢ Status.Table table.OutOfMemory }
 
     // A fault comes only where its object counted one in this call.
     ensures file_fault { HasCause (F.faults files.old) (F.faults files.new) (result ≡ Status.FileFault) }

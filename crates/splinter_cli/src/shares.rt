@@ -1,7 +1,9 @@
 //! What the two providers answer, and what their words add up to.
-ghost use Rattle.std.specs.Prelude.{◌≡◌, ◌%◌, ◌^◌, IfOk, sum_by};
+ghost use Rattle.std.specs.Prelude.{◌≡◌, ◌%◌, ◌<◌, ◌^◌, All, IfOk, sum_by};
 ghost use Rattle.spl_words.specs.declared.provider.Provider.TheVariants.{Zero, One};
-ghost use Rattle.splinter_cli.specs.Shares.{share_sum, count_of};
+ghost use Rattle.splinter_cli.specs.Commands.{IsCounting};
+ghost use Rattle.splinter_cli.specs.Orders.{counting_of};
+ghost use Rattle.splinter_cli.specs.Shares.{share_sum, count_of, secret_of};
 
 use point_keys::{PointEval, laws, make_point};
 use seed_expansion::ChaChaExpander;
@@ -9,11 +11,19 @@ use seed_expansion::laws::chacha_is_pure;
 use spl_words::{Provider, ShareFn, plus};
 use std::alloc::{AllocError, Global};
 
-/// The bits of a number in the table.
-const BITS: u32 = 16;
-
 /// The number of the one tree.
 const TREE: u32 = 0;
+
+/// A column's codes, and the code that is looked for among them.
+#[derive(Debug, Drop)]
+pub struct Counted {
+    /// The bits of a code, 1 to 128.
+    pub bits: u32,
+    /// The code that is looked for.
+    pub code: u128,
+    /// The column's codes, row by row.
+    pub column: Vec<u128>,
+}
 
 /// The words of both providers, and their sum, which is the count.
 #[derive(Clone, Copy, Debug)]
@@ -23,44 +33,33 @@ pub struct Answer {
     pub count: u64,
 }
 
-/// The sum of the shares at the numbers, modulo 2^64.
-fn sum_of_shares<S: ShareFn>(shares: &S, numbers: &[u16]) -> u64
-    requires { S.bits shares.now ≡ 16 }
-    ensures { result ≡ sum_by (S.word shares.now) numbers.now % 2 ^ 64 }
+/// The sum of the shares at the codes, modulo 2^64.
+fn sum_of_shares<S: ShareFn>(shares: &S, codes: &[u128]) -> u64
+    requires { All (λ code. code < 2 ^ S.bits shares.now) codes.now }
+    ensures { result ≡ sum_by (S.word shares.now) codes.now % 2 ^ 64 }
 {
     let mut sum = 0;
-    for number in numbers {
-        sum = plus(sum, shares.share(u128::from(*number)));
+    for code in codes {
+        sum = plus(sum, shares.share(*code));
     }
     sum
 }
 
-/// The answers of both providers under the two keys of the parameter, and what they add up to: how
-/// many of the numbers are the parameter.
-pub fn add_up(
-    alloc: Global,
-    parameter: u16,
-    numbers: &[u16],
-    roots: (u128, u128),
-) -> Result<Answer, AllocError>
-    ensures zero { IfOk result (λ a. a.zero ≡ share_sum Zero parameter roots numbers.now) }
-    ensures one { IfOk result (λ a. a.one ≡ share_sum One parameter roots numbers.now) }
-    ensures count { IfOk result (λ a. a.count ≡ count_of parameter numbers.now) }
+/// The answers of both providers under the two keys of the code, and what they add up to: how many of
+/// the column's codes are that one.
+pub fn add_up(alloc: Global, counted: &Counted, roots: (u128, u128)) -> Result<Answer, AllocError>
+    requires { IsCounting (counting_of counted.now) }
+    ensures zero { IfOk result (λ a. a.zero ≡ share_sum Zero (secret_of counted.now.bits counted.now.code) roots counted.now.column.items) }
+    ensures one { IfOk result (λ a. a.one ≡ share_sum One (secret_of counted.now.bits counted.now.code) roots counted.now.column.items) }
+    ensures count { IfOk result (λ a. a.count ≡ count_of counted.now.code counted.now.column.items) }
 {
+    let codes = counted.column.as_slice();
     let expander = ChaChaExpander;
-    let keys = make_point(
-        alloc,
-        &expander,
-        TREE,
-        BITS,
-        u128::from(parameter),
-        1,
-        roots,
-    )?;
+    let keys = make_point(alloc, &expander, TREE, counted.bits, counted.code, 1, roots)?;
     let shares_zero = PointEval::new(&expander, Provider::Zero, TREE, &keys.0);
-    let zero = sum_of_shares(&shares_zero, numbers);
+    let zero = sum_of_shares(&shares_zero, codes);
     let shares_one = PointEval::new(&expander, Provider::One, TREE, &keys.1);
-    let one = sum_of_shares(&shares_one, numbers);
+    let one = sum_of_shares(&shares_one, codes);
     chacha_is_pure();
     laws::point_shares_add();
     let count = plus(zero, one);

@@ -1,5 +1,6 @@
 //! How a command ends, and the errors of its phases.
-use crate::name::Name;
+use csv_tables::TableFault;
+use spl_values::{Name, ShapeFault};
 
 /// A part of the tool.
 #[derive(Clone, Copy, Debug, PartialEq, Eq)]
@@ -18,6 +19,10 @@ pub enum Status {
     Done,
     /// The words form no command.
     Usage,
+    /// The shape's file describes no shape.
+    Shape(ShapeFault),
+    /// The table's file has no table of the shape.
+    Table(TableFault),
     /// No file has this name.
     MissingFile(Name),
     /// The files failed.
@@ -34,14 +39,6 @@ pub enum Status {
     NotBuilt(Part),
 }
 
-/// What the words alone refuse.
-#[derive(Clone, Copy, Debug, PartialEq, Eq)]
-pub enum FormFault {
-    Usage,
-    Query,
-    Parameter,
-}
-
 /// Why a file was not read.
 #[derive(Debug, Drop)]
 pub enum ReadStop {
@@ -51,21 +48,15 @@ pub enum ReadStop {
     OutOfMemory,
 }
 
-/// Why a text gives no table.
-#[derive(Clone, Copy, Debug, PartialEq, Eq)]
-pub enum TableStop {
-    /// It isn't lines of numbers.
-    NotNumbers,
-    OutOfMemory,
-}
-
-/// What the words and the files refuse.
+/// What the words and the files refuse. Want of memory is no refusal, and is in no fault here.
 #[derive(Debug, Drop)]
 pub enum Refusal {
-    Form(FormFault),
+    Usage,
+    Shape(ShapeFault),
+    Table(TableFault),
     MissingFile(Name),
     FileTooLong(Name),
-    Table,
+    NotBuilt(Part),
 }
 
 /// Why no words were drawn.

@@ -1,13 +1,13 @@
 //! Steps that commands share.
-ghost use Rattle.std.specs.Prelude.{◌≡◌, ◌+◌, ◌*◌, ◌^◌, ◌≤◌, IfSome, IsErrOf, Some, drop};
+ghost use Rattle.std.specs.Prelude.{◌≡◌, ◌+◌, ◌*◌, ◌^◌, ◌≤◌, IfSome, IfErr, IsErrOf, Some, drop};
 ghost use Rattle.spl_outside.specs.Causes.{HasCause};
-ghost use Rattle.spl_outside.specs.Content.{first_or_zero};
-ghost use Rattle.splinter_cli.specs.Commands.{file_of};
-ghost use Rattle.splinter_cli.specs.Phases.{ReadGives};
+ghost use Rattle.spl_values.specs.ShapeTexts.{shape_of};
+ghost use Rattle.splinter_cli.specs.Phases.{ReadGives, Gives, StopsAtFiles};
+ghost use Rattle.splinter_cli.specs.Reads.{file_of, or_shape_refusal, shape_in};
 
-use crate::name::Name;
-use crate::status::ReadStop;
+use crate::status::{InputStop, ReadStop, Refusal};
 use spl_outside::{FileStop, Files};
+use spl_values::{Name, Shape, ShapeFault};
 use std::alloc::Global;
 
 /// The most bytes of a file that are read.
@@ -21,9 +21,38 @@ pub fn read_file<F: Files>(alloc: Global, files: &mut F, name: &str) -> Result<V
 {
     match files.read(alloc, name, FILE_LIMIT) {
         Ok(bytes) => Ok(bytes),
-        Err(FileStop::Absent) => Err(ReadStop::Missing(Name::new(String::from_str(alloc, name)?))),
-        Err(FileStop::TooLong) => Err(ReadStop::TooLong(Name::new(String::from_str(alloc, name)?))),
+        Err(FileStop::Absent) => Err(ReadStop::Missing(Name::from_string(String::from_str(
+            alloc, name,
+        )?))),
+        Err(FileStop::TooLong) => Err(ReadStop::TooLong(Name::from_string(String::from_str(
+            alloc, name,
+        )?))),
         Err(FileStop::Failed) => Err(ReadStop::Fault),
         Err(FileStop::OutOfMemory) => Err(ReadStop::OutOfMemory),
     }
+}
+
+/// The shape that a text describes.
+fn shape_of_text(alloc: Global, text: &[u8]) -> Result<Shape, InputStop>
+    ensures gives { Gives (λ shape. shape) result (or_shape_refusal (shape_of text.now)) }
+    ensures refusals { IfErr result StopsAtFiles }
+    ensures no_fault { IsErrOf result InputStop.FileFault → ⊥ }
+{
+    match spl_values::read_shape(alloc, text) {
+        Ok(shape) => Ok(shape),
+        Err(ShapeFault::OutOfMemory) => Err(InputStop::OutOfMemory),
+        Err(fault) => Err(InputStop::Refused(Refusal::Shape(fault))),
+    }
+}
+
+/// Reads a file and the shape that it describes.
+#[tactic(auto, unfolding(crate::specs::Reads::shape_in))]
+pub fn read_shape<F: Files>(alloc: Global, files: &mut F, name: &str) -> Result<Shape, InputStop>
+    ensures gives { IfSome (F.held files.old) (λ m. Gives (λ shape. shape) result (shape_in m name.now)) }
+    ensures refusals { IfErr result StopsAtFiles }
+    ensures stays { F.held files.new ≡ F.held files.old }
+    ensures cause { HasCause (F.faults files.old) (F.faults files.new) (IsErrOf result InputStop.FileFault) }
+{
+    let text = read_file(alloc, files, name)?;
+    shape_of_text(alloc, &text)
 }

@@ -1,0 +1,97 @@
+//! The lines of statuses.
+ghost use Rattle.std.specs.Prelude.{◌≡◌, IfOk};
+ghost use Rattle.std.specs.String.{string_bytes};
+ghost use Rattle.splinter_cli.specs.Texts.{line_of, part_text, shape_fault_text, value_fault_text, table_fault_text};
+
+use crate::status::{Part, Status};
+use csv_tables::TableFault;
+use spl_values::{ShapeFault, ValueFault};
+use std::alloc::{AllocError, Global};
+
+fn part_name(part: Part) -> &'static str
+    ensures { result.now ≡ part_text part }
+{
+    match part {
+        Part::Table => "table",
+        Part::Shape => "shape",
+        Part::Query => "query",
+        Part::Parameter => "parameter",
+        Part::Plan => "plan",
+    }
+}
+
+/// Why a text describes no shape.
+fn shape_fault(alloc: Global, fault: ShapeFault) -> Result<String, AllocError>
+    ensures { IfOk result (λ t. string_bytes t ≡ shape_fault_text fault) }
+{
+    match fault {
+        ShapeFault::BadLine(line) => format!(in alloc; "line {line}: bad"),
+        ShapeFault::SameName(line) => format!(in alloc; "line {line}: same name"),
+        ShapeFault::TooManyColumns(line) => format!(in alloc; "line {line}: too many columns"),
+        ShapeFault::TooManyRows => format!(in alloc; "line 2: too many rows"),
+        ShapeFault::OutOfMemory => Ok(String::new(alloc)),
+    }
+}
+
+/// Why a text is no value of a column.
+fn value_fault(fault: ValueFault) -> &'static str
+    ensures { result.now ≡ value_fault_text fault }
+{
+    match fault {
+        ValueFault::NotANumber => "not a number",
+        ValueFault::TooLarge => "too large",
+        ValueFault::TooLong(_) => "too long",
+        ValueFault::BadByte(_) => "bad byte",
+        ValueFault::NoSuchLabel => "no such label",
+    }
+}
+
+/// Why a text has no table of a shape.
+fn table_fault(alloc: Global, fault: TableFault) -> Result<String, AllocError>
+    ensures { IfOk result (λ t. string_bytes t ≡ table_fault_text fault) }
+{
+    match fault {
+        TableFault::BadHeader => format!(in alloc; "bad header"),
+        TableFault::RowLength(row) => format!(in alloc; "row {row}: length"),
+        TableFault::BadCell(row, column, fault) => {
+            let what = value_fault(fault);
+            format!(in alloc; "row {row}, column {column}: {what}")
+        }
+        TableFault::RowCount(found, stated) => format!(in alloc; "{found} rows, not {stated}"),
+        TableFault::OutOfMemory => Ok(String::new(alloc)),
+    }
+}
+
+/// The line of a status; empty where it has none.
+pub fn line(alloc: Global, status: &Status) -> Result<String, AllocError>
+    ensures { IfOk result (λ t. string_bytes t ≡ line_of status.now) }
+{
+    match status {
+        Status::Done | Status::OutputFault | Status::OutOfMemory => Ok(String::new(alloc)),
+        Status::Usage => format!(in alloc; "splinter: usage\n"),
+        Status::Shape(fault) => {
+            let what = shape_fault(alloc, *fault)?;
+            let what = what.as_str();
+            format!(in alloc; "splinter: shape: {what}\n")
+        }
+        Status::Table(fault) => {
+            let what = table_fault(alloc, *fault)?;
+            let what = what.as_str();
+            format!(in alloc; "splinter: table: {what}\n")
+        }
+        Status::MissingFile(name) => {
+            let name = name.as_str();
+            format!(in alloc; "splinter: no file {name}\n")
+        }
+        Status::FileFault => format!(in alloc; "splinter: file fault\n"),
+        Status::DrawFault => format!(in alloc; "splinter: draw fault\n"),
+        Status::FileTooLong(name) => {
+            let name = name.as_str();
+            format!(in alloc; "splinter: file too long {name}\n")
+        }
+        Status::NotBuilt(part) => {
+            let part = part_name(*part);
+            format!(in alloc; "splinter: not built: {part}\n")
+        }
+    }
+}
