@@ -150,7 +150,7 @@ kind_spells text kind e = by_uint (between (codes "UINT(") text) refl e
 
     by_uint : (o : Option (List ℕ)) → between (codes "UINT(") text ≡ o
         → option_map_or (λ number. option_and_then (λ b. if_kind (Uint b)) (plain_number number)) o
-            (option_map_or (λ number. option_and_then (λ k. if_kind (Text k)) (plain_number number)) (between (codes "TEXT(") text) (option_map_or (λ labels. if_kind (Enum (slice_split (λ b. b == 124) labels))) (between (codes "ENUM(") text) None)) ≡ Some kind
+        (option_map_or (λ number. option_and_then (λ k. if_kind (Text k)) (plain_number number)) (between (codes "TEXT(") text) (option_map_or (λ labels. if_kind (Enum (slice_split (λ b. b == 124) labels))) (between (codes "ENUM(") text) None)) ≡ Some kind
         → text ≡ kind_word kind ++ kind_inside kind ++ codes ")"
     by_uint (Some digits) f k = as_uint digits (plain_number digits) refl (between_spells (codes "UINT(") text digits f) k
     by_uint None f k = by_text (between (codes "TEXT(") text) refl k
@@ -160,12 +160,13 @@ space_parts : (line : List ℕ) → (before_first (λ b. b == 32) line ++ 32 ∷
 space_parts [] = inr refl
 space_parts (x ∷ xs) =
     elim (x == 32) as (λ t. (x == 32) ≡ t → (take (cond (not t) (1 + position_or_len (λ b. b == 32) xs) 0) (x ∷ xs) ++ 32 ∷ drop (cond (not t) (1 + position_or_len (λ b. b == 32) xs) 0 + 1) (x ∷ xs) ≡ x ∷ xs)
-        ⊎ (drop (cond (not t) (1 + position_or_len (λ b. b == 32) xs) 0 + 1) (x ∷ xs) ≡ []))
-    [ true ↦ λ h. inl (let same : x ≡ 32 = is_32 x h in ap (λ y. y ∷ xs) (sym same))
-    | false ↦ λ h.
-        let one : 1 + position_or_len (λ b. b == 32) xs ≡ suc (position_or_len (λ b. b == 32) xs) = omega arith in
-        let two : suc (position_or_len (λ b. b == 32) xs) + 1 ≡ suc (position_or_len (λ b. b == 32) xs + 1) = omega arith in
-        rw (one, two) (elim (space_parts xs) [ inl whole ↦ inl (ap (λ t. x ∷ t) whole) | inr none ↦ inr none ]) ] refl
+    ⊎ (drop (cond (not t) (1 + position_or_len (λ b. b == 32) xs) 0 + 1) (x ∷ xs) ≡ [])) [
+      | true ↦ λ h. inl (let same : x ≡ 32 = is_32 x h in ap (λ y. y ∷ xs) (sym same))
+      | false ↦ λ h.
+          let one : 1 + position_or_len (λ b. b == 32) xs ≡ suc (position_or_len (λ b. b == 32) xs) = omega arith in
+          let two : suc (position_or_len (λ b. b == 32) xs) + 1 ≡ suc (position_or_len (λ b. b == 32) xs + 1) = omega arith in
+          rw (one, two) (elim (space_parts xs) [ inl whole ↦ inl (ap (λ t. x ∷ t) whole) | inr none ↦ inr none ])
+    ] refl
   where
     is_32 : (n : ℕ) → (n == 32) ≡ true → n ≡ 32
     is_32 n h = grind (arith, nat_tests)
@@ -179,9 +180,10 @@ column_spells line c e = by_name (is_name (before_first (λ b. b == 32) line)) (
     by_name true (Some kind) typed f =
         let same : record { name = before_first (λ b. b == 32) line; kind = kind } ≡ c = cc in
         subst (λ (d : ColumnParts). line ≡ column_line d) same
-        (elim (space_parts line)
-          [ inl whole ↦ sym whole ∙ ap (λ t. before_first (λ b. b == 32) line ++ 32 ∷ t) (kind_spells (after_first (λ b. b == 32) line) kind typed)
-          | inr none ↦ let bad : Some kind ≡ None = sym typed ∙ ap kind_of_text none ∙ no_kind in absurd cc ])
+        (elim (space_parts line) [
+          | inl whole ↦ sym whole ∙ ap (λ t. before_first (λ b. b == 32) line ++ 32 ∷ t) (kind_spells (after_first (λ b. b == 32) line) kind typed)
+          | inr none ↦ let bad : Some kind ≡ None = sym typed ∙ ap kind_of_text none ∙ no_kind in absurd cc
+        ])
     by_name true None typed f = absurd cc
     by_name false o typed f = absurd cc
 
