@@ -31,25 +31,25 @@ fn reader_of(alloc: Global, bytes: &[u8]) -> Reader<&[u8]>
 
 // The next record, and whether there is one. Over bytes in memory want of memory is the one cause
 // of an error.
-fn next_record(reader: &mut Reader<&[u8]>, record: &mut ByteRecord) -> Result<bool, AllocError>
+fn next_record(reader: &mut Reader<&[u8]>, byte_record: &mut ByteRecord) -> Result<bool, AllocError>
     ensures { IfOk result (λ found. (s : State) (text : List ℕ) → StandsAt reader.old s text
-        → Took reader.new found (fields_of record.new) (next_record default_config s [] [] text)) }
+        → Took reader.new found (fields_of byte_record.new) (next_record default_config s [] [] text)) }
 {
-    match reader.read_byte_record(record) {
+    match reader.read_byte_record(byte_record) {
         Ok(found) => Ok(found),
         Err(_) => Err(AllocError),
     }
 }
 
 // Whether a record is the column names, in order.
-fn is_header(columns: &[Column], record: &ByteRecord) -> bool
-    ensures { result ≡ pointwise bytes_eq (fields_of record.now) (names_of columns.now) }
+fn is_header(columns: &[Column], byte_record: &ByteRecord) -> bool
+    ensures { result ≡ pointwise bytes_eq (fields_of byte_record.now) (names_of columns.now) }
 {
-    if record.len() != columns.len() {
+    if byte_record.len() != columns.len() {
         return false;
     }
     for (place, column) in columns.iter().enumerate() {
-        let Some(field) = record.get(place) else {
+        let Some(field) = byte_record.get(place) else {
             return false;
         };
         if field != column.name.as_bytes() {
@@ -80,19 +80,19 @@ fn push(cells: &mut Vec<Value>, value: Value) -> Result<(), AllocError>
 fn push_row(
     cells: &mut Vec<Value>,
     columns: &[Column],
-    record: &ByteRecord,
+    byte_record: &ByteRecord,
     number: u64,
 ) -> Result<(), TableFault>
     requires { length columns.now ≤ 24 }
-    ensures ok { OnOk result ((values : List AnyValue) × (row_of number columns.now (fields_of record.now) ≡ Ok values) × (cells.new.items ≡ cells.old.items ++ values)) }
-    ensures err { IfErr result (λ fault. fault ≢ no_memory → row_of number columns.now (fields_of record.now) ≡ Err fault) }
+    ensures ok { OnOk result ((values : List AnyValue) × (row_of number columns.now (fields_of byte_record.now) ≡ Ok values) × (cells.new.items ≡ cells.old.items ++ values)) }
+    ensures err { IfErr result (λ fault. fault ≢ no_memory → row_of number columns.now (fields_of byte_record.now) ≡ Err fault) }
 {
     let row = u32::try_from(number).unwrap_or(u32::MAX);
-    if record.len() != columns.len() {
+    if byte_record.len() != columns.len() {
         return Err(TableFault::RowLength(row));
     }
     for (place, column) in columns.iter().enumerate() {
-        let Some(field) = record.get(place) else {
+        let Some(field) = byte_record.get(place) else {
             unreachable!("there is a field for each column");
         };
         let value = cell_value(column, field, row, place as u32)?;
@@ -116,20 +116,20 @@ pub fn read_cells(
     ensures err { IfErr result (λ fault. fault ≢ no_memory → rows_under_header columns.now (records_of bytes.now) ≡ Err fault) }
 {
     let mut reader = reader_of(alloc, bytes);
-    let mut record = ByteRecord::new(alloc);
-    if !next_record(&mut reader, &mut record)? {
+    let mut byte_record = ByteRecord::new(alloc);
+    if !next_record(&mut reader, &mut byte_record)? {
         return Err(TableFault::BadHeader);
     }
-    if !is_header(columns, &record) {
+    if !is_header(columns, &byte_record) {
         return Err(TableFault::BadHeader);
     }
     let most = stated as usize * columns.len();
     let mut cells = Vec::with_capacity(alloc, most + columns.len())?;
     for number in 0..u64::MAX {
-        if !next_record(&mut reader, &mut record)? {
+        if !next_record(&mut reader, &mut byte_record)? {
             return Ok((cells, number));
         }
-        push_row(&mut cells, columns, &record, number)?;
+        push_row(&mut cells, columns, &byte_record, number)?;
         cells.truncate(most);
     }
     // No memory holds so many records.

@@ -8,3 +8,4 @@ pub mod ShapeReading
 pub mod ShapeLaws
 pub mod ShapePrinting
 pub mod ShapeRoundTrip
+pub mod ShapeSpelling

@@ -1,5 +1,5 @@
 -- Laws of codes, of texts and of keys.
-use Rattle.std.specs.Prelude.{◌≡◌, ◌^◌, ◌<◌, ℕ, List, Ok, IsTrue}
+use Rattle.std.specs.Prelude.{◌≡◌, ◌↔◌, ◌^◌, ◌<◌, ℕ, List, Ok, IsTrue}
 use Rattle.spl_values.specs.Kinds.{is_kind, bits_of, Fits}
 use Rattle.spl_values.specs.Codes.{code_of, IsBefore}
 use Rattle.spl_values.specs.CellTexts.{value_of_text, text_of_value}
@@ -28,6 +28,6 @@ PrintedValuesRead = (kind : ColumnType) (v : Value) → IsTrue (is_kind kind) �
 abbrev pub PrintedShapesRead : Type 0
 PrintedShapesRead = (s : ShapeParts) → IsShape s → shape_of (shape_text s) ≡ Ok s
 
--- a text that describes a shape reads as that shape
+-- a text reads as a shape exactly where it describes it
 abbrev pub ShapeTextsRead : Type 0
-ShapeTextsRead = (text : List ℕ) (s : ShapeParts) → IsShapeText text s → shape_of text ≡ Ok s
+ShapeTextsRead = (text : List ℕ) (s : ShapeParts) → (shape_of text ≡ Ok s) ↔ IsShapeText text s

@@ -26,7 +26,7 @@ pub fn printed_shapes_read()
     ensures { PrintedShapesRead }
 {}
 
-/// A text whose lines are those of a shape reads as that shape.
+/// A text reads as a shape exactly where its lines are those of the shape.
 pub fn shape_texts_read()
     ensures { ShapeTextsRead }
 {}

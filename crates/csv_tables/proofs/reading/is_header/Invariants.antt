@@ -7,4 +7,4 @@ use Rattle.csv_tables.proofs.reading.is_header.Given as goal
 
 abbrev pub invariant-loop-place : goal.invariant-loop-place
 invariant-loop-place l =
-    pointwise bytes_eq (fields_of l.record) (names_of l.columns) ≡ pointwise bytes_eq (drop l.place (fields_of l.record)) (names_of (drop l.place l.columns))
+    pointwise bytes_eq (fields_of l.byte_record) (names_of l.columns) ≡ pointwise bytes_eq (drop l.place (fields_of l.byte_record)) (names_of (drop l.place l.columns))

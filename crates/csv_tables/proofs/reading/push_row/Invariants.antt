@@ -8,4 +8,4 @@ use Rattle.csv_tables.proofs.reading.push_row.Given as goal
 abbrev pub invariant-loop-place : goal.invariant-loop-place
 invariant-loop-place l =
     (values : List Value) × (l.cells.items ≡ l.initial.cells.items ++ values)
-    × (cells_of l.number 0 l.columns (fields_of l.record) ≡ with_front values (cells_of l.number l.place (drop l.place l.columns) (drop l.place (fields_of l.record))))
+    × (cells_of l.number 0 l.columns (fields_of l.byte_record) ≡ with_front values (cells_of l.number l.place (drop l.place l.columns) (drop l.place (fields_of l.byte_record))))
