@@ -2,3 +2,4 @@ pub mod Fields
 pub mod Records
 pub mod Tables
 pub mod Written
+pub mod RoundTrip

@@ -1,0 +1,7 @@
+//! Laws of tables as texts: each is the contract of a function that does nothing.
+ghost use Rattle.csv_tables.specs.Writing.{WrittenTablesRead};
+
+/// Reading the text of a table gives the table's rows.
+pub fn written_tables_read()
+    ensures { WrittenTablesRead }
+{}
