@@ -6,14 +6,14 @@ import time
 METER = ["/usr/bin/time", "-f", "%M", "--quiet"]
 
 
-def measure(words, runs=5, cwd=None):
-    """The seconds and the peak of memory in MiB of the fastest of some runs; each has to end with status 0."""
+def measure(words, runs=5, status=0):
+    """The seconds and the peak of memory in MiB of the fastest of some runs; each has to end with that status."""
     best = None
     for _ in range(runs):
         begun = time.perf_counter()
-        done = subprocess.run(METER + words, stdout=subprocess.DEVNULL, stderr=subprocess.PIPE, text=True, cwd=cwd)
+        done = subprocess.run(METER + words, stdout=subprocess.DEVNULL, stderr=subprocess.PIPE, text=True)
         seconds = time.perf_counter() - begun
-        if done.returncode != 0:
+        if done.returncode != status:
             raise SystemExit(f"{words[0]} ended with status {done.returncode}: {done.stderr}")
         peak = int(done.stderr.split()[-1]) / 1024
         if best is None or seconds < best[0]:
