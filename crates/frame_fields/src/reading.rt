@@ -1,13 +1,15 @@
-//! The fields that frames share.
+//! Reading the fields that frames share. Each reader answers the field's value and leaves the cursor behind it, or
+//! answers the first fault; after a fault the cursor says nothing.
 ghost use Rattle.std.specs.Prelude.{◌≡◌, ◌⊎◌, ◌<◌, ◌≤◌, ◌^◌, length, MatchResult, Ok, Err, OnOk, IfOk};
 ghost use Rattle.std.specs.Int.{w8, w16, w32, w64, w128};
 ghost use Rattle.sha2.specs.Sha256.{sha256};
 ghost use Rattle.spl_words.specs.declared.fault.FrameFault.TheVariants.{TooLarge};
 ghost use Rattle.frame_fields.specs.Reading.{Reads, Gives, take_at, number_at, magic_at, version_at, within_at, provider_at, digest_at};
 
-use spl_words::{Fields, FrameFault, Provider};
 use sha2::{Digest, Sha256};
+use spl_words::{Fields, FrameFault, Provider};
 
+/// The next `n` bytes, which are one field.
 #[tactic(auto, unfolding(crate::specs::Reading::take_at))]
 pub fn take<'a>(fields: &mut Fields<'a>, n: u64) -> Result<&'a [u8], FrameFault>
     requires { n < 2 ^ 32 }
@@ -21,6 +23,7 @@ pub fn take<'a>(fields: &mut Fields<'a>, n: u64) -> Result<&'a [u8], FrameFault>
     }
 }
 
+/// The next byte.
 #[tactic(auto, unfolding(crate::specs::Reading::take_at, crate::specs::Reading::number_at))]
 pub fn byte(fields: &mut Fields) -> Result<u8, FrameFault>
     ensures { Reads (λ b. b) result fields.new (number_at w8 fields.old) }
@@ -32,6 +35,7 @@ pub fn byte(fields: &mut Fields) -> Result<u8, FrameFault>
     }
 }
 
+/// The number of the next two bytes, the highest first.
 #[tactic(auto, unfolding(crate::specs::Reading::take_at, crate::specs::Reading::number_at))]
 pub fn be16(fields: &mut Fields) -> Result<u16, FrameFault>
     ensures { Reads (λ b. b) result fields.new (number_at w16 fields.old) }
@@ -43,6 +47,7 @@ pub fn be16(fields: &mut Fields) -> Result<u16, FrameFault>
     }
 }
 
+/// The number of the next four bytes, the highest first.
 #[tactic(auto, unfolding(crate::specs::Reading::take_at, crate::specs::Reading::number_at))]
 pub fn be32(fields: &mut Fields) -> Result<u32, FrameFault>
     ensures { Reads (λ b. b) result fields.new (number_at w32 fields.old) }
@@ -54,6 +59,7 @@ pub fn be32(fields: &mut Fields) -> Result<u32, FrameFault>
     }
 }
 
+/// The number of the next eight bytes, the highest first.
 #[tactic(auto, unfolding(crate::specs::Reading::take_at, crate::specs::Reading::number_at))]
 pub fn be64(fields: &mut Fields) -> Result<u64, FrameFault>
     ensures { Reads (λ b. b) result fields.new (number_at w64 fields.old) }
@@ -65,6 +71,7 @@ pub fn be64(fields: &mut Fields) -> Result<u64, FrameFault>
     }
 }
 
+/// The number of the next sixteen bytes, the highest first.
 #[tactic(auto, unfolding(crate::specs::Reading::take_at, crate::specs::Reading::number_at))]
 pub fn be128(fields: &mut Fields) -> Result<u128, FrameFault>
     ensures { Reads (λ b. b) result fields.new (number_at w128 fields.old) }
@@ -76,6 +83,7 @@ pub fn be128(fields: &mut Fields) -> Result<u128, FrameFault>
     }
 }
 
+/// The next 32 bytes, which are one field, as a digest has.
 #[tactic(auto, unfolding(crate::specs::Reading::take_at))]
 pub fn take32(fields: &mut Fields) -> Result<[u8; 32], FrameFault>
     ensures { Reads (λ b. b) result fields.new (take_at 32 fields.old) }
@@ -87,7 +95,7 @@ pub fn take32(fields: &mut Fields) -> Result<[u8; 32], FrameFault>
     }
 }
 
-/// Four bytes that have to be these.
+/// Four bytes that have to be these, which tell the kind of a frame.
 #[tactic(auto, unfolding(crate::specs::Reading::magic_at))]
 pub fn magic(fields: &mut Fields, text: &[u8]) -> Result<(), FrameFault>
     requires { length text.now ≡ 4 }
@@ -101,6 +109,7 @@ pub fn magic(fields: &mut Fields, text: &[u8]) -> Result<(), FrameFault>
     }
 }
 
+/// A byte that has to be this version.
 #[tactic(auto, unfolding(crate::specs::Reading::version_at))]
 pub fn version(fields: &mut Fields, expected: u8) -> Result<(), FrameFault>
     ensures { Reads (λ x. x) result fields.new (version_at expected fields.old) }
@@ -113,6 +122,7 @@ pub fn version(fields: &mut Fields, expected: u8) -> Result<(), FrameFault>
     }
 }
 
+/// A byte that has to be from `low` to `high`.
 #[tactic(auto, unfolding(crate::specs::Reading::within_at))]
 pub fn within(fields: &mut Fields, low: u8, high: u8) -> Result<u8, FrameFault>
     ensures { Reads (λ x. x) result fields.new (within_at w8 low high fields.old) }
@@ -126,6 +136,7 @@ pub fn within(fields: &mut Fields, low: u8, high: u8) -> Result<u8, FrameFault>
     }
 }
 
+/// A number of two bytes that has to be from `low` to `high`.
 #[tactic(auto, unfolding(crate::specs::Reading::within_at))]
 pub fn within16(fields: &mut Fields, low: u16, high: u16) -> Result<u16, FrameFault>
     ensures { Reads (λ x. x) result fields.new (within_at w16 low high fields.old) }
@@ -139,6 +150,7 @@ pub fn within16(fields: &mut Fields, low: u16, high: u16) -> Result<u16, FrameFa
     }
 }
 
+/// A number of four bytes that has to be from `low` to `high`.
 #[tactic(auto, unfolding(crate::specs::Reading::within_at))]
 pub fn within32(fields: &mut Fields, low: u32, high: u32) -> Result<u32, FrameFault>
     ensures { Reads (λ x. x) result fields.new (within_at w32 low high fields.old) }
@@ -152,6 +164,7 @@ pub fn within32(fields: &mut Fields, low: u32, high: u32) -> Result<u32, FrameFa
     }
 }
 
+/// A provider, as the byte 0 or 1.
 #[tactic(auto, unfolding(crate::specs::Reading::provider_at))]
 pub fn provider_field(fields: &mut Fields) -> Result<Provider, FrameFault>
     ensures { Reads (λ x. x) result fields.new (provider_at fields.old) }
@@ -162,6 +175,7 @@ pub fn provider_field(fields: &mut Fields) -> Result<Provider, FrameFault>
     }
 }
 
+/// The SHA-256 of the bytes (FIPS 180-4).
 pub fn digest_of(bytes: &[u8]) -> [u8; 32]
     ensures { result ≡ sha256 bytes.now }
 {
@@ -170,6 +184,7 @@ pub fn digest_of(bytes: &[u8]) -> [u8; 32]
     hasher.finalize()
 }
 
+/// The digest of all bytes before it, and no byte behind it.
 #[tactic(auto, unfolding(crate::specs::Reading::digest_at))]
 pub fn digest(fields: &mut Fields) -> Result<(), FrameFault>
     ensures { Gives (λ x. x) result (digest_at fields.old) }
@@ -187,10 +202,10 @@ pub fn digest(fields: &mut Fields) -> Result<(), FrameFault>
     }
 }
 
-/// A cursor at the front, where a frame is not too large.
+/// A cursor at the front of a frame, which has at most 4,194,304 bytes.
 pub fn start<'a>(bytes: &'a [u8]) -> Result<Fields<'a>, FrameFault>
     ensures ok { IfOk result (λ f. (f ≡ record { bytes = bytes.now; at = 0 }) × (length bytes.now ≤ 4194304)) }
-    ensures err { MatchResult result (λ f. Unit {0}) (λ e. (e ≡ TooLarge) × (4194304 < length bytes.now)) }
+    ensures large { MatchResult result (λ f. Unit {0}) (λ e. (e ≡ TooLarge) × (4194304 < length bytes.now)) }
 {
     if bytes.len() > 4_194_304 {
         return Err(FrameFault::TooLarge);
