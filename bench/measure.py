@@ -1,7 +1,9 @@
-"""Times a command: the least wall time of several runs, and the most memory that one of them held."""
-import os
+"""Times a command: the least wall time of several runs, and the most memory that the fastest of them held."""
 import subprocess
 import time
+
+# Its own memory is small, so what it tells of a command is the command's.
+METER = ["/usr/bin/time", "-f", "%M", "--quiet"]
 
 
 def measure(words, runs=5, cwd=None):
@@ -9,12 +11,11 @@ def measure(words, runs=5, cwd=None):
     best = None
     for _ in range(runs):
         begun = time.perf_counter()
-        process = subprocess.Popen(words, stdout=subprocess.DEVNULL, cwd=cwd)
-        _, status, usage = os.wait4(process.pid, 0)
+        done = subprocess.run(METER + words, stdout=subprocess.DEVNULL, stderr=subprocess.PIPE, text=True, cwd=cwd)
         seconds = time.perf_counter() - begun
-        if status != 0:
-            raise SystemExit(f"{words[0]} ended with status {os.waitstatus_to_exitcode(status)}")
-        peak = usage.ru_maxrss / 1024
+        if done.returncode != 0:
+            raise SystemExit(f"{words[0]} ended with status {done.returncode}: {done.stderr}")
+        peak = int(done.stderr.split()[-1]) / 1024
         if best is None or seconds < best[0]:
             best = (seconds, peak)
     return best

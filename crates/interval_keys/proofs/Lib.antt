@@ -1,0 +1,4 @@
+pub mod ThresholdLaw
+pub mod IntervalLaw
+pub mod OneLevel
+pub mod Made

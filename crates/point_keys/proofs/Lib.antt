@@ -1,0 +1,2 @@
+pub mod PointLaw
+pub mod Made

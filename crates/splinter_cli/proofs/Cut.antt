@@ -1,0 +1,54 @@
+-- What a refusal that couldn't be printed leaves.
+use Rattle.std.proofs.Common.{◌≡◌, ◌≢◌, ℕ, List, Option, Some, None, Result, Ok, Err, refl, sym, subst, ◌∙◌, inl, inr}
+use Rattle.splinter_cli.specs.declared.status.Status.{Status}
+use Rattle.splinter_cli.specs.declared.status.Status.TheVariants as status
+use Rattle.splinter_cli.specs.declared.status.Refusal.{Refusal}
+use Rattle.splinter_cli.specs.declared.status.InputStop.TheVariants as input
+use Rattle.splinter_cli.specs.declared.status.Stopped.{Stopped}
+use Rattle.splinter_cli.specs.declared.status.Stopped.TheVariants as stopped
+use Rattle.std.specs.Prelude.{IfSome}
+use Rattle.spl_outside.specs.Content.{FileMap}
+use Rattle.splinter_cli.specs.declared.status.FormFault.{FormFault}
+use Rattle.splinter_cli.specs.Commands.{Ready, Order, judged, draws}
+use Rattle.splinter_cli.specs.Ends.{end_of, status_of, Reports}
+use Rattle.splinter_cli.specs.Meets.{Meets, Refuses, LeftAfter}
+use Rattle.splinter_cli.specs.Prints.{MayPrint, Cuts}
+use Rattle.splinter_cli.specs.Texts.{line_of}
+
+-- the line of what stopped the command may be printed, but where it was memory
+pub may_print : (T : Type 0) (ready : Result Ready Refusal) (words : Option (List ℕ)) (s : Stopped) → end_of s ≢ status.OutOfMemory
+    → Refuses {T = T} (Err s) ready → MayPrint ready words (line_of (end_of s))
+may_print T ready words (stopped.Input (input.Refused r)) noted h = subst (λ step. MayPrint step words (line_of (status_of r))) (sym h) (inl refl)
+may_print T (Ok x) words (stopped.Input input.FileFault) noted h = inl refl
+may_print T (Err r) words (stopped.Input input.FileFault) noted h = inr refl
+may_print T ready words (stopped.Input input.OutOfMemory) noted h = absurd (noted refl)
+may_print T (Ok x) words stopped.DrawFault noted h = inr (inl refl)
+may_print T (Err r) words stopped.DrawFault noted h = absurd cc
+may_print T ready words stopped.OutOfMemory noted h = absurd (noted refl)
+
+-- a front of the line that was to be printed
+pub cut_line : (ready : Result Ready Refusal) (words : Option (List ℕ)) (before text : List ℕ) (ended result : Status) (now : Option (List ℕ))
+    → (ended ≢ status.OutOfMemory → MayPrint ready words text) → (ended ≡ status.OutOfMemory → result ≡ status.OutOfMemory) → ended ≢ status.OutputFault
+    → result ≡ status.OutputFault → Reports before text ended result now → Cuts ready words before now
+cut_line ready words before text ended result now may quiet other is (inl h) = absurd (other (sym h.0 ∙ is))
+cut_line ready words before text ended result now may quiet other is (inr (inl h)) =
+    let printed : ended ≢ status.OutOfMemory = λ e. let both : status.OutputFault ≡ status.OutOfMemory = sym is ∙ quiet e in absurd cc in
+    (text, (may printed, h.1))
+cut_line ready words before text ended result now may quiet other is (inr (inr h)) =
+    let both : status.OutputFault ≡ status.OutOfMemory = sym is ∙ h.0 in absurd cc
+
+-- the same over what is told
+pub cut_stopped : (T : Type 0) (text : T → List ℕ) (files : Option FileMap) (order : Result Order FormFault) (words left sink : Option (List ℕ)) (s : Stopped) (result : Status) (now : Option (List ℕ))
+    → IfSome files (λ m. Meets {T = T} text (judged order m) words left (Err s)) → IfSome sink (λ w. Reports w (line_of (end_of s)) (end_of s) result now)
+    → end_of s ≢ status.OutputFault → (end_of s ≡ status.OutOfMemory → result ≡ status.OutOfMemory) → result ≡ status.OutputFault
+    → IfSome files (λ m. IfSome sink (λ w. Cuts (judged order m) words w now))
+cut_stopped T text None order words left sink s result now meets reports other quiet is = tt
+cut_stopped T text (Some m) order words left None s result now meets reports other quiet is = tt
+cut_stopped T text (Some m) order words left (Some w) s result now meets reports other quiet is =
+    cut_line (judged order m) words w (line_of (end_of s)) (end_of s) result now (λ some. may_print T (judged order m) words s some meets.refuses) quiet other is reports
+
+-- what a command that stopped drew
+pub drawn_stopped : (T : Type 0) (text : T → List ℕ) (files : Option FileMap) (order : Result Order FormFault) (words left : Option (List ℕ)) (s : Stopped)
+    → IfSome files (λ m. Meets {T = T} text (judged order m) words left (Err s)) → IfSome files (λ m. IfSome words (λ ws. LeftAfter (draws (judged order m)) ws left))
+drawn_stopped T text None order words left s meets = tt
+drawn_stopped T text (Some m) order words left s meets = meets.tells

@@ -1,0 +1,11 @@
+pub mod Numbers
+pub mod Digits
+pub mod Phases
+pub mod Shares
+pub mod Texts
+pub mod Commands
+pub mod Orders
+pub mod Ends
+pub mod Meets
+pub mod Prints
+pub mod Draws

@@ -1,0 +1,43 @@
+//! Private SQL over two providers: the command line.
+#![tactic(auto)]
+
+mod commands;
+mod convert;
+mod digits;
+mod dispatch;
+mod draws;
+mod host;
+mod name;
+mod report;
+mod run;
+mod shares;
+mod status;
+mod steps;
+#[cfg(test)]
+mod tests;
+mod trace;
+
+use std::alloc::Global;
+use std::process::ExitCode;
+use std::rt::Env;
+use std::{env, io};
+
+/// The words of the command line after the program's name.
+fn words_of<R: Env + Alloc<A = Global>>(rt: &R) -> io::Result<Vec<String>> {
+    let mut words = Vec::new(rt.alloc());
+    for word in env::args(rt)?.skip(1) {
+        words.push(word)?;
+    }
+    Ok(words)
+}
+
+/// Runs the command. Words that can't be read form none.
+fn main(rt: HostRuntime) -> ExitCode {
+    let alloc = rt.alloc();
+    let words = words_of(&rt).unwrap_or(Vec::new(alloc));
+    let mut files = host::HostFiles::new(&rt);
+    let mut draw = host::HostDraw::new(&rt);
+    let mut out = host::HostSink::new(&rt);
+    let status = run::run(alloc, &words, &mut files, &mut draw, &mut out);
+    ExitCode::from(report::number_of(&status))
+}

@@ -1,0 +1,70 @@
+//! The top call.
+ghost use Rattle.std.specs.Prelude.{◌≡◌, ◌≢◌, ◌++◌, ℕ, List, IfSome, IfErr, IsErr, IsOk, map, Some, Err};
+ghost use Rattle.std.specs.String.{string_bytes};
+ghost use Rattle.spl_outside.specs.Causes.{HasCause};
+ghost use Rattle.splinter_cli.specs.Commands.{order_of, judged, draws};
+ghost use Rattle.splinter_cli.specs.Ends.{ComesExactlyWhere, ComesWhereRead};
+ghost use Rattle.splinter_cli.specs.Meets.{LeftAfter};
+ghost use Rattle.splinter_cli.specs.Prints.{Prints, Cuts};
+ghost use Rattle.splinter_cli.specs.Texts.{HasLine, line_of};
+ghost use Rattle.splinter_cli.specs.declared.status.FormFault.TheVariants as form;
+ghost use Rattle.splinter_cli.specs.declared.status.Part.TheVariants as part;
+ghost use Rattle.splinter_cli.specs.declared.status.Refusal.TheVariants as refusal;
+
+use crate::dispatch::dispatch;
+use crate::report;
+use crate::status::Status;
+use spl_outside::{Draw, Files, Sink};
+use std::alloc::Global;
+
+/// Runs the command that the words mean, and prints its text or the line of its refusal.
+///
+/// The words are the command line without the program's name. Steps are taken in their order, and the
+/// first refusal ends the command. Where the line of a refusal can't be printed the status is
+/// `OutputFault`, or `OutOfMemory`, in its place.
+pub fn run<F: Files, R: Draw, O: Sink>(
+    alloc: Global,
+    words: &Vec<String>,
+    files: &mut F,
+    draw: &mut R,
+    out: &mut O,
+) -> Status
+    // What the words alone refuse, before anything else is touched.
+    ensures usage { ComesExactlyWhere (order_of (map string_bytes words.now.items) ≡ Err form.Usage) Status.Usage result }
+    ensures not_query { ComesExactlyWhere (order_of (map string_bytes words.now.items) ≡ Err form.Query) (Status.NotBuilt part.Query) result }
+    ensures not_parameter { ComesExactlyWhere (order_of (map string_bytes words.now.items) ≡ Err form.Parameter) (Status.NotBuilt part.Parameter) result }
+    ensures untouched { IsErr (order_of (map string_bytes words.now.items)) → (files.new ≡ files.old) × (draw.new ≡ draw.old) }
+
+    // What the words and the files refuse, where the files are told.
+    ensures missing { IfSome (F.held files.old) (λ m. (name : List ℕ) → ComesWhereRead (judged (order_of (map string_bytes words.now.items)) m ≡ Err (refusal.MissingFile name)) (Status.MissingFile name) result) }
+    ensures too_long { IfSome (F.held files.old) (λ m. (name : List ℕ) → ComesWhereRead (judged (order_of (map string_bytes words.now.items)) m ≡ Err (refusal.FileTooLong name)) (Status.FileTooLong name) result) }
+    ensures not_table { IfSome (F.held files.old) (λ m. ComesWhereRead (judged (order_of (map string_bytes words.now.items)) m ≡ Err refusal.Table) (Status.NotBuilt part.Table) result) }
+    ensures undrawn { IfSome (F.held files.old) (λ m. IsErr (judged (order_of (map string_bytes words.now.items)) m) → draw.new ≡ draw.old) }
+    ensures never_shape { result ≢ Status.NotBuilt part.Shape }
+    ensures never_plan { result ≢ Status.NotBuilt part.Plan }
+
+    // A fault comes only where its object counted one in this call.
+    ensures file_fault { HasCause (F.faults files.old) (F.faults files.new) (result ≡ Status.FileFault) }
+    ensures draw_fault { HasCause (R.faults draw.old) (R.faults draw.new) (result ≡ Status.DrawFault) }
+    ensures output_fault { HasCause (O.faults out.old) (O.faults out.new) (result ≡ Status.OutputFault) }
+    ensures fault_undrawn { result ≡ Status.FileFault → draw.new ≡ draw.old }
+    ensures late_draw { result ≡ Status.DrawFault → IfSome (F.held files.old) (λ m. IsOk (judged (order_of (map string_bytes words.now.items)) m)) }
+
+    // What is printed.
+    ensures done { result ≡ Status.Done → IfSome (F.held files.old) (λ m. IfSome (R.words draw.old) (λ ws. IfSome (O.written out.old) (λ w.
+        Prints (judged (order_of (map string_bytes words.now.items)) m) ws (R.words draw.new) w (O.written out.new)))) }
+    ensures line { HasLine result → IfSome (O.written out.old) (λ w. O.written out.new ≡ Some (w ++ line_of result)) }
+    ensures cut { result ≡ Status.OutputFault → IfSome (F.held files.old) (λ m. IfSome (O.written out.old) (λ w.
+        Cuts (judged (order_of (map string_bytes words.now.items)) m) (R.words draw.old) w (O.written out.new))) }
+    ensures nothing { result ≡ Status.OutOfMemory → IfSome (O.written out.old) (λ w. O.written out.new ≡ Some w) }
+
+    // What stays, and what is drawn.
+    ensures files_stay { F.held files.new ≡ F.held files.old }
+    ensures drawn { IfSome (F.held files.old) (λ m. IfSome (R.words draw.old) (λ ws.
+        LeftAfter (draws (judged (order_of (map string_bytes words.now.items)) m)) ws (R.words draw.new))) }
+{
+    match dispatch(alloc, words, files, draw) {
+        Ok(text) => report::print(alloc, out, text.as_str(), Status::Done),
+        Err(stopped) => report::refuse(alloc, out, stopped),
+    }
+}
