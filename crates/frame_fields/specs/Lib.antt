@@ -1,0 +1,3 @@
+pub mod Typed
+pub mod Reading
+pub mod Pieces

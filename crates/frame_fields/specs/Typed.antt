@@ -1,0 +1,6 @@
+-- What the types of numbers say.
+use Rattle.std.specs.Prelude.{ℕ, ◌<◌, List, get_or}
+
+-- each number is a byte
+abbrev pub IsBytes : List ℕ → Type 0
+IsBytes bytes = (i : ℕ) → get_or bytes i 0 < 256
