@@ -1,0 +1,12 @@
+pub mod Lists
+pub mod Order
+pub mod Sorting
+pub mod Best
+pub mod Words
+pub mod Merging
+pub mod Labels
+pub mod All
+pub mod Triples
+pub mod Kept
+pub mod Blocks
+pub mod RowCells

@@ -1,0 +1,29 @@
+-- A list of words seen as entries of three words each.
+use Rattle.std.specs.Prelude.{◌≡◌, ℕ, zero, suc, ◌+◌, ◌*◌, Bool, true, false, ◌==◌, List, [], ◌∷◌, ◌++◌, slice_index, slice_set, if◌then◌else◌}
+use Rattle.cell_merge.specs.declared.entry.Entry.{Entry}
+use Rattle.cell_merge.specs.Entries.{before}
+
+abbrev pub entry_at : List ℕ → ℕ → Entry
+entry_at ws i = record { place = slice_index ws (3 * i); sort = slice_index ws (3 * i + 1); show = slice_index ws (3 * i + 2) }
+
+abbrev pub with_entry : List ℕ → ℕ → Entry → List ℕ
+with_entry ws i e = slice_set (slice_set (slice_set ws (3 * i) e.place) (3 * i + 1) e.sort) (3 * i + 2) e.show
+
+-- the first n entries
+unfoldable pub triples : ℕ → List ℕ → List Entry
+triples zero ws = []
+triples (suc n) ws = triples n ws ++ entry_at ws n ∷ []
+
+-- x put in before the first that it comes before
+unfoldable pub behind : Entry → List Entry → List Entry
+behind x [] = x ∷ []
+behind x (y ∷ ys) = if before x y then x ∷ y ∷ ys else y ∷ behind x ys
+
+-- what stands behind a place: the entry that moves down, or, while none was placed, the entry that is to be placed
+unfoldable pub after : Bool → Entry → List Entry → List Entry
+after true x ys = x ∷ ys
+after false x ys = behind x ys
+
+-- x put in, unless it is no entry
+unfoldable pub kept : Entry → List Entry → List Entry
+kept x ys = if x.place == 0 then ys else behind x ys
