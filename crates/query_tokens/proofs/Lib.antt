@@ -1,0 +1,9 @@
+pub mod Digits
+pub mod TokensAgain
+pub mod Scan
+pub mod Ascii
+pub mod Names
+pub mod Printed
+pub mod Standing
+pub mod Writable
+pub mod Writing
