@@ -1,0 +1,4 @@
+pub mod Clear
+pub mod CellAnswers
+pub mod Printable
+pub mod Lines
