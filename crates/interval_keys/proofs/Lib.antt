@@ -2,3 +2,8 @@ pub mod ThresholdLaw
 pub mod IntervalLaw
 pub mod OneLevel
 pub mod Made
+pub mod Merging
+pub mod Rising
+pub mod SlotEnds
+pub mod SlotSteps
+pub mod SlotLaws

@@ -1,2 +1,4 @@
 pub mod Thresholds
 pub mod Intervals
+pub mod Slots
+pub mod Merging

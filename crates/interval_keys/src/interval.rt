@@ -6,7 +6,7 @@ use spl_words::{TreeKind, TreeSecret};
 use std::marker::Model;
 
 /// The numbers from `lo` to `hi`, both among them. `lo` is not above `hi`.
-#[derive(Clone, Copy, Debug, PartialEq, Eq)]
+#[derive(Clone, Copy, Debug, Default, PartialEq, Eq)]
 pub struct Interval {
     pub lo: u128,
     pub hi: u128,

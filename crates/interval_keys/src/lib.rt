@@ -1,5 +1,5 @@
-//! Keys of threshold functions, two keys whose shares add to a word at each number up to one, and
-//! the two thresholds that stand for an interval.
+//! Keys of threshold functions, two keys whose shares add to a word at each number up to one; the
+//! two thresholds that stand for an interval; and the disjoint intervals of a query's branches.
 #![tactic(auto)]
 
 mod eval;
@@ -9,6 +9,9 @@ pub mod laws;
 mod make;
 mod share;
 #[cfg(test)]
+mod slot_tests;
+mod slots;
+#[cfg(test)]
 mod tests;
 
 pub use eval::ThresholdEval;
@@ -16,3 +19,4 @@ pub use interval::{Interval, interval_secrets};
 pub use keys::{ThresholdKey, ThresholdLevel, ThresholdLevels};
 pub use make::make_threshold;
 pub use share::threshold_share;
+pub use slots::normalise_intervals;
