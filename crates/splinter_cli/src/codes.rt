@@ -6,11 +6,11 @@ ghost use Rattle.splinter_status.specs.Phases.{Gives, StopsAtFiles};
 ghost use Rattle.splinter_cli.specs.Reads.{codes_or_refusal, codes_in};
 ghost use Rattle.csv_tables.specs.Reading.{table_of_text};
 
-use splinter_status::{InputStop, Refusal};
 use crate::steps;
 use csv_tables::{TableFault, read_table};
 use spl_outside::Files;
 use spl_values::{Shape, Table, join_key};
+use splinter_status::{InputStop, Refusal};
 use std::alloc::{AllocError, Global};
 
 /// The codes in the column of that number, row by row.

@@ -54,7 +54,10 @@ fn counts_the_rows_of_the_parameter(rt: HostRuntime) -> Result<(), AllocError> {
         let words = ["trace", "shape", "table", QUERY, parameter];
         let left = run_steady(rt.alloc(), &words, shape, table, drawn)?;
         assert_eq!(rt; left.number, 0, "parameter {parameter}");
-        assert!(rt; left.printed.as_slice() == printed.as_bytes(), "parameter {parameter}");
+        assert!(rt;
+            left.printed.as_slice() == printed.as_bytes(),
+            "parameter {parameter}"
+        );
     }
     Ok(())
 }

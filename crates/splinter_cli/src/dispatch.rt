@@ -10,9 +10,9 @@ ghost use Rattle.splinter_status.specs.declared.stops.Refusal.TheVariants as ref
 ghost use Rattle.splinter_status.specs.declared.stops.Stopped.TheVariants as stopped;
 
 use crate::commands::{Command, read_command};
-use splinter_status::{InputStop, Refusal, Stopped};
 use crate::trace::trace;
 use spl_outside::{Draw, Files};
+use splinter_status::{InputStop, Refusal, Stopped};
 use std::alloc::Global;
 
 /// The command that the words mean, up to the text that it prints.

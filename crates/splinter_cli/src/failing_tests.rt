@@ -38,8 +38,15 @@ fn stops_where_a_call_fails(rt: HostRuntime) -> Result<(), AllocError> {
         (0, 3, 1, 13, "", 3),
     ] {
         let left = trace_of(rt.alloc(), "SFO", Fails { files, draw, out })?;
-        assert_eq!(rt; left.number, number, "files {files}, draw {draw}, out {out}");
-        assert!(rt; left.printed.as_slice() == printed.as_bytes(), "files {files}, draw {draw}, out {out}");
+        assert_eq!(rt;
+            left.number,
+            number,
+            "files {files}, draw {draw}, out {out}"
+        );
+        assert!(rt;
+            left.printed.as_slice() == printed.as_bytes(),
+            "files {files}, draw {draw}, out {out}"
+        );
         assert_eq!(rt; left.next, next, "files {files}, draw {draw}, out {out}");
     }
     Ok(())

@@ -6,8 +6,8 @@ ghost use Rattle.spl_values.specs.Kinds.{is_kind, bits_of};
 ghost use Rattle.splinter_status.specs.Phases.{IsOfFiles};
 ghost use Rattle.splinter_cli.specs.Questions.{place_of, query_of, code_of_text, question_of, Asks};
 
-use splinter_status::{Part, Refusal};
 use spl_values::{Column, ColumnType, Shape, bits, encode, laws, value_of};
+use splinter_status::{Part, Refusal};
 
 /// What is asked of a table.
 #[derive(Clone, Copy, Debug)]

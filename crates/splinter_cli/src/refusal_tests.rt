@@ -38,11 +38,7 @@ fn refuses_words_in_order(rt: HostRuntime) -> Result<(), AllocError> {
             30,
             "not built: parameter",
         ),
-        (
-            &["trace", "shape", "none", QUERY, "AB"],
-            11,
-            "no file none",
-        ),
+        (&["trace", "shape", "none", QUERY, "AB"], 11, "no file none"),
         (
             &["trace", "shape", "shape", QUERY, "AB"],
             6,
@@ -50,7 +46,10 @@ fn refuses_words_in_order(rt: HostRuntime) -> Result<(), AllocError> {
         ),
     ];
     for (words, number, text) in &rows {
-        assert!(rt; refuses(rt.alloc(), words, SHAPE, b"", *number, text)?, "{text}");
+        assert!(rt;
+            refuses(rt.alloc(), words, SHAPE, b"", *number, text)?,
+            "{text}"
+        );
     }
     Ok(())
 }
@@ -64,7 +63,12 @@ fn refuses_what_files_hold(rt: HostRuntime) -> Result<(), AllocError> {
         (SHAPE, b"", 6, "table: bad header"),
         (SHAPE, b"a\nAB\nAB\n", 6, "table: 2 rows, not 3"),
         (SHAPE, b"a\nAB\nAB,\nlong\n", 6, "table: row 1: length"),
-        (SHAPE, b"a\nAB\nlong\nAB\n", 6, "table: row 1, column 0: too long"),
+        (
+            SHAPE,
+            b"a\nAB\nlong\nAB\n",
+            6,
+            "table: row 1, column 0: too long",
+        ),
         (
             b"table t\nrows 1\na TEXT(3)\n",
             b"a\n\xff\n",
@@ -74,7 +78,10 @@ fn refuses_what_files_hold(rt: HostRuntime) -> Result<(), AllocError> {
     ];
     let words = ["trace", "shape", "table", QUERY, "AB"];
     for (shape, table, number, text) in &rows {
-        assert!(rt; refuses(rt.alloc(), &words, shape, table, *number, text)?, "{text}");
+        assert!(rt;
+            refuses(rt.alloc(), &words, shape, table, *number, text)?,
+            "{text}"
+        );
     }
     Ok(())
 }

@@ -16,8 +16,8 @@ ghost use Rattle.splinter_status.specs.declared.status.Part.TheVariants as part;
 ghost use Rattle.splinter_status.specs.declared.stops.Refusal.TheVariants as refusal;
 
 use crate::dispatch::dispatch;
-use splinter_status::{Status, print, refuse};
 use spl_outside::{Draw, Files, Sink};
+use splinter_status::{Status, print, refuse};
 use std::alloc::Global;
 
 /// Runs the command that the words mean, and prints its text or the line of its refusal.

@@ -5,9 +5,9 @@ ghost use Rattle.spl_values.specs.ShapeTexts.{shape_of};
 ghost use Rattle.splinter_status.specs.Phases.{ReadGives, Gives, StopsAtFiles};
 ghost use Rattle.splinter_cli.specs.Reads.{file_of, or_shape_refusal, shape_in};
 
-use splinter_status::{InputStop, ReadStop, Refusal};
 use spl_outside::{FileStop, Files};
 use spl_values::{Name, Shape, ShapeFault};
+use splinter_status::{InputStop, ReadStop, Refusal};
 use std::alloc::Global;
 
 /// The most bytes of a file that are read.

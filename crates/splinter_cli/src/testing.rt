@@ -78,10 +78,7 @@ pub fn run_failing(
     let mut files = MemoryFiles::new(alloc, vec![in alloc; fails.files]?);
     files.put("shape", shape)?;
     files.put("table", table)?;
-    let mut draw = MemoryDraw::new(
-        Vec::from_slice(alloc, drawn)?,
-        vec![in alloc; fails.draw]?,
-    );
+    let mut draw = MemoryDraw::new(Vec::from_slice(alloc, drawn)?, vec![in alloc; fails.draw]?);
     let mut out = MemorySink::new(alloc, vec![in alloc; fails.out]?);
     let number = number(alloc, texts, &mut files, &mut draw, &mut out)?;
     Ok(Left {

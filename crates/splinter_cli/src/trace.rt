@@ -17,9 +17,9 @@ use crate::commands::TraceWords;
 use crate::draws::draw_roots;
 use crate::questions::question_of;
 use crate::shares::{Counted, add_up};
-use splinter_status::{InputStop, Stopped};
 use crate::steps;
 use spl_outside::{Draw, Files};
+use splinter_status::{InputStop, Stopped};
 use std::alloc::{AllocError, Global};
 
 /// Reads the shape, judges the query and the parameter by it, and reads the table.
