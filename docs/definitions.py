@@ -33,6 +33,7 @@ CRATES = [
     ("frame_fields", "The fields that all frames share, and what reading them gives."),
     ("answer_frames", "What a provider sends back."),
     ("key_frames", "What a provider is sent, and the client's note."),
+    ("splinter_status", "How a command ends: statuses, their lines, and the errors of its phases."),
     ("splinter_cli", "The commands: what their words and files come to, what is printed, and how each status comes."),
 ]
 

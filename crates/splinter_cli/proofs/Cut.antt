@@ -1,18 +1,18 @@
 -- What a refusal that couldn't be printed leaves.
 use Rattle.std.proofs.Common.{◌≡◌, ◌≢◌, ℕ, List, Option, Some, None, Result, Ok, Err, refl, sym, subst, ◌∙◌, inl, inr}
-use Rattle.splinter_cli.specs.declared.status.Status.{Status}
-use Rattle.splinter_cli.specs.declared.status.Status.TheVariants as status
-use Rattle.splinter_cli.specs.declared.status.Refusal.{Refusal}
-use Rattle.splinter_cli.specs.declared.status.InputStop.TheVariants as input
-use Rattle.splinter_cli.specs.declared.status.Stopped.{Stopped}
-use Rattle.splinter_cli.specs.declared.status.Stopped.TheVariants as stopped
+use Rattle.splinter_status.specs.declared.status.Status.{Status}
+use Rattle.splinter_status.specs.declared.status.Status.TheVariants as status
+use Rattle.splinter_status.specs.declared.stops.Refusal.{Refusal}
+use Rattle.splinter_status.specs.declared.stops.InputStop.TheVariants as input
+use Rattle.splinter_status.specs.declared.stops.Stopped.{Stopped}
+use Rattle.splinter_status.specs.declared.stops.Stopped.TheVariants as stopped
 use Rattle.std.specs.Prelude.{IfSome}
 use Rattle.spl_outside.specs.Content.{FileMap}
 use Rattle.splinter_cli.specs.Commands.{Ready, Order, judged, draws}
-use Rattle.splinter_cli.specs.Ends.{end_of, status_of, Reports}
+use Rattle.splinter_status.specs.Ends.{end_of, status_of, Reports}
 use Rattle.splinter_cli.specs.Meets.{Meets, Refuses, LeftAfter}
 use Rattle.splinter_cli.specs.Prints.{MayPrint, Cuts}
-use Rattle.splinter_cli.specs.Texts.{line_of}
+use Rattle.splinter_status.specs.Texts.{line_of}
 
 -- the line of what stopped the command may be printed, but where it was memory
 pub may_print : (T : Type 0) (ready : Result Ready Refusal) (words : Option (List ℕ)) (s : Stopped) → end_of s ≢ status.OutOfMemory

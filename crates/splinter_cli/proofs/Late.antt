@@ -2,7 +2,7 @@
 use Rattle.std.proofs.Common.{◌≡◌, ℕ, List, drop, Option, Some, None, Ok, Err, refl, sym, subst}
 use Rattle.std.specs.Prelude.{IfSome}
 use Rattle.spl_outside.specs.Content.{FileMap}
-use Rattle.splinter_cli.specs.declared.status.Stopped.TheVariants as stopped
+use Rattle.splinter_status.specs.declared.stops.Stopped.TheVariants as stopped
 use Rattle.splinter_cli.specs.Commands.{TraceOrder, Counting, counting, trace_ready}
 use Rattle.splinter_cli.specs.Meets.{Meets, LeftAfter}
 use Rattle.splinter_cli.proofs.Drawn.{all_drawn}

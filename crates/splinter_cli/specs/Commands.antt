@@ -4,12 +4,12 @@ use Rattle.std.specs.Str.{bytes_eq}
 use Rattle.spl_outside.specs.Content.{FileMap}
 use Rattle.spl_words.specs.Results.{◌>>=◌}
 use Rattle.spl_words.specs.declared.provider.Provider.TheVariants.{Zero, One}
-use Rattle.splinter_cli.specs.declared.status.Refusal.{Refusal}
-use Rattle.splinter_cli.specs.declared.status.Refusal.TheVariants as refusal
+use Rattle.splinter_status.specs.declared.stops.Refusal.{Refusal}
+use Rattle.splinter_status.specs.declared.stops.Refusal.TheVariants as refusal
 use Rattle.splinter_cli.specs.Reads.{shape_in, codes_in}
 use Rattle.splinter_cli.specs.Questions.{question_of}
 use Rattle.splinter_cli.specs.Shares.{roots_of, share_sum, count_of, secret_of}
-use Rattle.splinter_cli.specs.Texts.{answer_text}
+use Rattle.splinter_cli.specs.Shares.{answer_text}
 
 -- ---- what the words mean
 

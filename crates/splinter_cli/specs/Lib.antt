@@ -1,11 +1,8 @@
-pub mod Phases
 pub mod Reads
 pub mod Questions
 pub mod Shares
-pub mod Texts
 pub mod Commands
 pub mod Orders
-pub mod Ends
 pub mod Meets
 pub mod Prints
 pub mod Draws

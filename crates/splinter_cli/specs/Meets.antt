@@ -1,9 +1,9 @@
 -- What a command owes up to the text that it prints, where the files are told.
 use Rattle.std.specs.Prelude.{◌≡◌, ℕ, ◌≤◌, List, drop, Option, Some, IfSome, IfOk, IsOk, Result, Ok, Err}
-use Rattle.splinter_cli.specs.declared.status.Refusal.{Refusal}
-use Rattle.splinter_cli.specs.declared.status.InputStop.TheVariants as input
-use Rattle.splinter_cli.specs.declared.status.Stopped.{Stopped}
-use Rattle.splinter_cli.specs.declared.status.Stopped.TheVariants as stopped
+use Rattle.splinter_status.specs.declared.stops.Refusal.{Refusal}
+use Rattle.splinter_status.specs.declared.stops.InputStop.TheVariants as input
+use Rattle.splinter_status.specs.declared.stops.Stopped.{Stopped}
+use Rattle.splinter_status.specs.declared.stops.Stopped.TheVariants as stopped
 use Rattle.splinter_cli.specs.Commands.{Ready, draws, printed}
 
 -- a refusal is what the words and the files come to, and what comes later comes only where they refuse nothing

@@ -1,10 +1,10 @@
 -- What `run` leaves in the sink.
 use Rattle.std.specs.Prelude.{◌≡◌, ◌⊎◌, ℕ, List, ◌++◌, take, drop, Option, Some, IfSome, Result, Ok, Err}
-use Rattle.splinter_cli.specs.declared.status.Status.TheVariants as status
-use Rattle.splinter_cli.specs.declared.status.Refusal.{Refusal}
+use Rattle.splinter_status.specs.declared.status.Status.TheVariants as status
+use Rattle.splinter_status.specs.declared.stops.Refusal.{Refusal}
 use Rattle.splinter_cli.specs.Commands.{Ready, draws, printed}
-use Rattle.splinter_cli.specs.Texts.{line_of}
-use Rattle.splinter_cli.specs.Ends.{status_of}
+use Rattle.splinter_status.specs.Texts.{line_of}
+use Rattle.splinter_status.specs.Ends.{status_of}
 
 -- the text of the command was appended, and its words were drawn
 abbrev pub Prints : Result Ready Refusal → List ℕ → Option (List ℕ) → List ℕ → Option (List ℕ) → Type 0

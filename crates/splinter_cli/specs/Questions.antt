@@ -10,10 +10,10 @@ use Rattle.spl_values.specs.Shapes.{ColumnParts, ShapeParts}
 use Rattle.spl_values.specs.Tables.{column_bits}
 use Rattle.spl_values.specs.declared.kinds.ColumnType.{ColumnType}
 use Rattle.splinter_cli.specs.declared.questions.Question.{Question}
-use Rattle.splinter_cli.specs.declared.status.Refusal.{Refusal}
-use Rattle.splinter_cli.specs.declared.status.Refusal.TheVariants as refusal
-use Rattle.splinter_cli.specs.declared.status.Part.{Part}
-use Rattle.splinter_cli.specs.declared.status.Part.TheVariants as part
+use Rattle.splinter_status.specs.declared.stops.Refusal.{Refusal}
+use Rattle.splinter_status.specs.declared.stops.Refusal.TheVariants as refusal
+use Rattle.splinter_status.specs.declared.status.Part.{Part}
+use Rattle.splinter_status.specs.declared.status.Part.TheVariants as part
 
 -- what is there, or the refusal that this part has a form that isn't built
 abbrev pub if_built : {A : Type 0} → Part → Option A → Result A Refusal

@@ -10,8 +10,8 @@ use Rattle.spl_values.specs.declared.values.Value.{Value}
 use Rattle.spl_values.specs.declared.shape_reader.ShapeFault.{ShapeFault}
 use Rattle.csv_tables.specs.Reading.{table_of_text}
 use Rattle.csv_tables.specs.declared.fault.TableFault.{TableFault}
-use Rattle.splinter_cli.specs.declared.status.Refusal.{Refusal}
-use Rattle.splinter_cli.specs.declared.status.Refusal.TheVariants as refusal
+use Rattle.splinter_status.specs.declared.stops.Refusal.{Refusal}
+use Rattle.splinter_status.specs.declared.stops.Refusal.TheVariants as refusal
 
 -- a file that is read has at most 67108864 bytes
 abbrev pub file_limit : ℕ

@@ -1,5 +1,6 @@
 -- What the two providers answer.
-use Rattle.std.specs.Prelude.{ℕ, ◌+◌, ◌*◌, ◌%◌, ◌^◌, ◌==◌, List, drop, sum_by, count_by}
+use Rattle.std.specs.Prelude.{ℕ, ◌+◌, ◌*◌, ◌%◌, ◌^◌, ◌==◌, List, ◌++◌, drop, sum_by, count_by, codes}
+use Rattle.std.specs.Fmt.{decimal}
 use Rattle.spl_outside.specs.Content.{first_or_zero}
 use Rattle.spl_words.specs.Secrets.{Secret}
 use Rattle.spl_words.specs.declared.secret.TreeKind.TheVariants.{Point}
@@ -41,3 +42,7 @@ share_sum p secret roots codes = sum_by (share_at p secret roots) codes % 2 ^ 64
 -- how many of the codes are this one; codes of different values differ, so it is the number of the rows that have the value of this code
 abbrev pub count_of : ℕ → List ℕ → ℕ
 count_of code codes = count_by (λ c. c == code) codes
+
+-- the words of Zero and One in the one round, and the answer
+abbrev pub answer_text : ℕ → ℕ → ℕ → List ℕ
+answer_text x y n = codes "round 1\n0 " ++ (decimal x ++ (codes "\n1 " ++ (decimal y ++ (codes "\nCOUNT(*) " ++ (decimal n ++ codes "\n")))))

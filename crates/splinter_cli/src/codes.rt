@@ -2,15 +2,15 @@
 ghost use Rattle.std.specs.Prelude.{◌≡◌, ◌<◌, ◌^◌, All, map, length, IfOk, IfErr, IfSome, IsErrOf};
 ghost use Rattle.spl_outside.specs.Causes.{HasCause};
 ghost use Rattle.spl_values.specs.Tables.{column_bits, column_code};
-ghost use Rattle.splinter_cli.specs.Phases.{Gives, StopsAtFiles};
+ghost use Rattle.splinter_status.specs.Phases.{Gives, StopsAtFiles};
 ghost use Rattle.splinter_cli.specs.Reads.{codes_or_refusal, codes_in};
 ghost use Rattle.csv_tables.specs.Reading.{table_of_text};
 
-use crate::status::{InputStop, Refusal};
 use crate::steps;
 use csv_tables::{TableFault, read_table};
 use spl_outside::Files;
 use spl_values::{Shape, Table, join_key};
+use splinter_status::{InputStop, Refusal};
 use std::alloc::{AllocError, Global};
 
 /// The codes in the column of that number, row by row.

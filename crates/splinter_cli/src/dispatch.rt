@@ -4,15 +4,15 @@ ghost use Rattle.std.specs.String.{string_bytes};
 ghost use Rattle.spl_outside.specs.Causes.{HasCause};
 ghost use Rattle.splinter_cli.specs.Commands.{order_of, judged};
 ghost use Rattle.splinter_cli.specs.Meets.{Meets};
-ghost use Rattle.splinter_cli.specs.Phases.{EndsAtFiles};
-ghost use Rattle.splinter_cli.specs.declared.status.InputStop.TheVariants as input;
-ghost use Rattle.splinter_cli.specs.declared.status.Refusal.TheVariants as refusal;
-ghost use Rattle.splinter_cli.specs.declared.status.Stopped.TheVariants as stopped;
+ghost use Rattle.splinter_status.specs.Phases.{EndsAtFiles};
+ghost use Rattle.splinter_status.specs.declared.stops.InputStop.TheVariants as input;
+ghost use Rattle.splinter_status.specs.declared.stops.Refusal.TheVariants as refusal;
+ghost use Rattle.splinter_status.specs.declared.stops.Stopped.TheVariants as stopped;
 
 use crate::commands::{Command, read_command};
-use crate::status::{InputStop, Refusal, Stopped};
 use crate::trace::trace;
 use spl_outside::{Draw, Files};
+use splinter_status::{InputStop, Refusal, Stopped};
 use std::alloc::Global;
 
 /// The command that the words mean, up to the text that it prints.

@@ -1,5 +1,5 @@
 //! The real files, random words and output. They tell nothing of what they hold, and count each fault.
-ghost use Rattle.std.specs.Prelude.{◌≤◌, None, IfOk, length};
+ghost use Rattle.std.specs.Prelude.{◌≡◌, ◌≢◌, ◌≤◌, None, IfOk, length};
 
 use spl_outside::{Draw, Failed, FileStop, Files, Sink, Stop};
 use std::alloc::Global;
@@ -15,7 +15,10 @@ pub struct HostFiles<R> {
 }
 
 impl<R> HostFiles<R> {
-    pub fn new(rt: R) -> Self {
+    /// The files that the runtime reaches, before any fault.
+    pub fn new(rt: R) -> Self
+        ensures { result.faults ≡ 0 }
+    {
         HostFiles { rt, faults: 0 }
     }
 }
@@ -90,7 +93,9 @@ fn write_whole<R: std::rt::Files>(rt: &R, name: &str, bytes: &[u8]) -> Result<()
 }
 
 /// Why a file was not opened or read.
-fn stop_of(kind: ErrorKind) -> FileStop {
+fn stop_of(kind: ErrorKind) -> FileStop
+    ensures { result ≢ FileStop.TooLong }
+{
     match kind {
         ErrorKind::NotFound => FileStop::Absent,
         ErrorKind::OutOfMemory => FileStop::OutOfMemory,
@@ -106,7 +111,10 @@ pub struct HostDraw<R> {
 }
 
 impl<R> HostDraw<R> {
-    pub fn new(rt: R) -> Self {
+    /// The random source of the runtime, before any fault.
+    pub fn new(rt: R) -> Self
+        ensures { result.faults ≡ 0 }
+    {
         HostDraw { rt, faults: 0 }
     }
 }
@@ -136,7 +144,10 @@ pub struct HostSink<R> {
 }
 
 impl<R> HostSink<R> {
-    pub fn new(rt: R) -> Self {
+    /// The standard output of the runtime, before any fault.
+    pub fn new(rt: R) -> Self
+        ensures { result.faults ≡ 0 }
+    {
         HostSink { rt, faults: 0 }
     }
 }

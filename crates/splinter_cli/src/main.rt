@@ -3,19 +3,21 @@
 
 mod codes;
 mod commands;
-mod convert;
+#[cfg(test)]
+mod count_tests;
 mod dispatch;
 mod draws;
+#[cfg(test)]
+mod failing_tests;
 mod host;
 mod questions;
-mod report;
+#[cfg(test)]
+mod refusal_tests;
 mod run;
 mod shares;
-mod status;
 mod steps;
 #[cfg(test)]
-mod tests;
-mod texts;
+mod testing;
 mod trace;
 
 use std::alloc::Global;
@@ -40,5 +42,5 @@ fn main(rt: HostRuntime) -> ExitCode {
     let mut draw = host::HostDraw::new(&rt);
     let mut out = host::HostSink::new(&rt);
     let status = run::run(alloc, &words, &mut files, &mut draw, &mut out);
-    ExitCode::from(report::number_of(&status))
+    ExitCode::from(splinter_status::number_of(&status))
 }

@@ -3,11 +3,11 @@
 ghost use Rattle.std.specs.Prelude.{◌≡◌, ◌<◌, ◌≤◌, ◌^◌, length, codes, position, IsTrue, IfOk, IfErr, IfSome, Some, slice_get};
 ghost use Rattle.std.specs.Str.{bytes_eq};
 ghost use Rattle.spl_values.specs.Kinds.{is_kind, bits_of};
-ghost use Rattle.splinter_cli.specs.Phases.{IsOfFiles};
+ghost use Rattle.splinter_status.specs.Phases.{IsOfFiles};
 ghost use Rattle.splinter_cli.specs.Questions.{place_of, query_of, code_of_text, question_of, Asks};
 
-use crate::status::{Part, Refusal};
 use spl_values::{Column, ColumnType, Shape, bits, encode, laws, value_of};
+use splinter_status::{Part, Refusal};
 
 /// What is asked of a table.
 #[derive(Clone, Copy, Debug)]

@@ -7,18 +7,17 @@ ghost use Rattle.spl_values.specs.declared.shape_reader.ShapeFault.TheVariants a
 ghost use Rattle.csv_tables.specs.declared.fault.TableFault.{TableFault};
 ghost use Rattle.csv_tables.specs.declared.fault.TableFault.TheVariants as table;
 ghost use Rattle.splinter_cli.specs.Commands.{order_of, judged, draws};
-ghost use Rattle.splinter_cli.specs.Ends.{ComesExactlyWhere, ComesWhereRead};
+ghost use Rattle.splinter_status.specs.Ends.{ComesExactlyWhere, ComesWhereRead};
 ghost use Rattle.splinter_cli.specs.Meets.{LeftAfter};
 ghost use Rattle.splinter_cli.specs.Prints.{Prints, Cuts};
-ghost use Rattle.splinter_cli.specs.Texts.{HasLine, line_of};
-ghost use Rattle.splinter_cli.specs.declared.status.Part.{Part};
-ghost use Rattle.splinter_cli.specs.declared.status.Part.TheVariants as part;
-ghost use Rattle.splinter_cli.specs.declared.status.Refusal.TheVariants as refusal;
+ghost use Rattle.splinter_status.specs.Texts.{HasLine, line_of};
+ghost use Rattle.splinter_status.specs.declared.status.Part.{Part};
+ghost use Rattle.splinter_status.specs.declared.status.Part.TheVariants as part;
+ghost use Rattle.splinter_status.specs.declared.stops.Refusal.TheVariants as refusal;
 
 use crate::dispatch::dispatch;
-use crate::report;
-use crate::status::Status;
 use spl_outside::{Draw, Files, Sink};
+use splinter_status::{Status, print, refuse};
 use std::alloc::Global;
 
 /// Runs the command that the words mean, and prints its text or the line of its refusal.
@@ -72,7 +71,7 @@ pub fn run<F: Files, R: Draw, O: Sink>(
         LeftAfter (draws (judged (order_of (map string_bytes words.now.items)) m)) ws (R.words draw.new))) }
 {
     match dispatch(alloc, words, files, draw) {
-        Ok(text) => report::print(alloc, out, text.as_str(), Status::Done),
-        Err(stopped) => report::refuse(alloc, out, stopped),
+        Ok(text) => print(alloc, out, text.as_bytes(), Status::Done),
+        Err(stopped) => refuse(alloc, out, stopped),
     }
 }

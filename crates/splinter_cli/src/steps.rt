@@ -2,12 +2,12 @@
 ghost use Rattle.std.specs.Prelude.{◌≡◌, ◌+◌, ◌*◌, ◌^◌, ◌≤◌, IfSome, IfErr, IsErrOf, Some, drop};
 ghost use Rattle.spl_outside.specs.Causes.{HasCause};
 ghost use Rattle.spl_values.specs.ShapeTexts.{shape_of};
-ghost use Rattle.splinter_cli.specs.Phases.{ReadGives, Gives, StopsAtFiles};
+ghost use Rattle.splinter_status.specs.Phases.{ReadGives, Gives, StopsAtFiles};
 ghost use Rattle.splinter_cli.specs.Reads.{file_of, or_shape_refusal, shape_in};
 
-use crate::status::{InputStop, ReadStop, Refusal};
 use spl_outside::{FileStop, Files};
 use spl_values::{Name, Shape, ShapeFault};
+use splinter_status::{InputStop, ReadStop, Refusal};
 use std::alloc::Global;
 
 /// The most bytes of a file that are read.

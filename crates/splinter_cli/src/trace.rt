@@ -5,21 +5,21 @@ ghost use Rattle.spl_outside.specs.Causes.{HasCause};
 ghost use Rattle.splinter_cli.specs.Commands.{trace_ready, trace_text, counting, IsCounting};
 ghost use Rattle.splinter_cli.specs.Meets.{Meets};
 ghost use Rattle.splinter_cli.specs.Orders.{trace_words, counting_of};
-ghost use Rattle.splinter_cli.specs.Phases.{Gives, StopsAtFiles, EndsAtFiles};
+ghost use Rattle.splinter_status.specs.Phases.{Gives, StopsAtFiles, EndsAtFiles};
 ghost use Rattle.spl_words.specs.declared.provider.Provider.TheVariants.{Zero, One};
 ghost use Rattle.splinter_cli.specs.Shares.{share_sum, count_of, secret_of};
-ghost use Rattle.splinter_cli.specs.Texts.{answer_text};
-ghost use Rattle.splinter_cli.specs.declared.status.InputStop.TheVariants as input;
-ghost use Rattle.splinter_cli.specs.declared.status.Stopped.TheVariants as stopped;
+ghost use Rattle.splinter_cli.specs.Shares.{answer_text};
+ghost use Rattle.splinter_status.specs.declared.stops.InputStop.TheVariants as input;
+ghost use Rattle.splinter_status.specs.declared.stops.Stopped.TheVariants as stopped;
 
 use crate::codes::read_codes;
 use crate::commands::TraceWords;
 use crate::draws::draw_roots;
 use crate::questions::question_of;
 use crate::shares::{Counted, add_up};
-use crate::status::{InputStop, Stopped};
 use crate::steps;
 use spl_outside::{Draw, Files};
+use splinter_status::{InputStop, Stopped};
 use std::alloc::{AllocError, Global};
 
 /// Reads the shape, judges the query and the parameter by it, and reads the table.

@@ -1,11 +1,11 @@
 //! How the error of a step becomes that of the phases round it.
 ghost use Rattle.std.specs.Prelude.{◌≡◌};
-ghost use Rattle.splinter_cli.specs.declared.status.InputStop.TheVariants as input;
-ghost use Rattle.splinter_cli.specs.declared.status.ReadStop.TheVariants as read;
-ghost use Rattle.splinter_cli.specs.Phases.{read_stop};
-ghost use Rattle.splinter_cli.specs.declared.status.Stopped.TheVariants as stopped;
+ghost use Rattle.splinter_status.specs.declared.stops.InputStop.TheVariants as input;
+ghost use Rattle.splinter_status.specs.declared.stops.ReadStop.TheVariants as read;
+ghost use Rattle.splinter_status.specs.Phases.{read_stop};
+ghost use Rattle.splinter_status.specs.declared.stops.Stopped.TheVariants as stopped;
 
-use crate::status::{InputStop, ReadStop, Refusal, Stopped};
+use crate::stops::{InputStop, ReadStop, Refusal, Stopped};
 use spl_outside::Failed;
 use std::alloc::AllocError;
 

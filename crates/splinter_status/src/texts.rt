@@ -1,7 +1,7 @@
-//! The lines of statuses.
+//! The lines and the numbers of statuses.
 ghost use Rattle.std.specs.Prelude.{◌≡◌, IfOk};
 ghost use Rattle.std.specs.String.{string_bytes};
-ghost use Rattle.splinter_cli.specs.Texts.{line_of, part_text, shape_fault_text, value_fault_text, table_fault_text};
+ghost use Rattle.splinter_status.specs.Texts.{line_of, part_text, shape_fault_text, value_fault_text, table_fault_text, status_number};
 
 use crate::status::{Part, Status};
 use csv_tables::TableFault;
@@ -93,5 +93,24 @@ pub fn line(alloc: Global, status: &Status) -> Result<String, AllocError>
             let part = part_name(*part);
             format!(in alloc; "splinter: not built: {part}\n")
         }
+    }
+}
+
+/// The number that the program ends with.
+pub fn number_of(status: &Status) -> u8
+    ensures { result ≡ status_number status.now }
+{
+    match status {
+        Status::Done => 0,
+        Status::Usage => 2,
+        Status::Shape(_) => 5,
+        Status::Table(_) => 6,
+        Status::MissingFile(_) => 11,
+        Status::FileFault => 12,
+        Status::OutputFault => 13,
+        Status::DrawFault => 14,
+        Status::OutOfMemory => 20,
+        Status::FileTooLong(_) => 21,
+        Status::NotBuilt(_) => 30,
     }
 }

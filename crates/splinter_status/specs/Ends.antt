@@ -1,12 +1,12 @@
 -- How a command ends, and what it leaves in the sink.
 use Rattle.std.specs.Prelude.{◌≡◌, ◌⊎◌, ℕ, List, ◌++◌, take, Option, Some}
-use Rattle.splinter_cli.specs.declared.status.Status.{Status}
-use Rattle.splinter_cli.specs.declared.status.Status.TheVariants as status
-use Rattle.splinter_cli.specs.declared.status.Refusal.{Refusal}
-use Rattle.splinter_cli.specs.declared.status.Refusal.TheVariants as refusal
-use Rattle.splinter_cli.specs.declared.status.Stopped.{Stopped}
-use Rattle.splinter_cli.specs.declared.status.Stopped.TheVariants as stopped
-use Rattle.splinter_cli.specs.declared.status.InputStop.TheVariants as input
+use Rattle.splinter_status.specs.declared.status.Status.{Status}
+use Rattle.splinter_status.specs.declared.status.Status.TheVariants as status
+use Rattle.splinter_status.specs.declared.stops.Refusal.{Refusal}
+use Rattle.splinter_status.specs.declared.stops.Refusal.TheVariants as refusal
+use Rattle.splinter_status.specs.declared.stops.Stopped.{Stopped}
+use Rattle.splinter_status.specs.declared.stops.Stopped.TheVariants as stopped
+use Rattle.splinter_status.specs.declared.stops.InputStop.TheVariants as input
 
 -- the status of a refusal
 abbrev pub status_of : Refusal → Status

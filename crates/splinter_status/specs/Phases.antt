@@ -3,15 +3,15 @@ use Rattle.std.specs.Prelude.{◌≡◌, ℕ, List, Result, Ok, Err}
 use Rattle.std.specs.Global.{Vec}
 use Rattle.spl_values.specs.declared.shape_reader.ShapeFault.TheVariants as shape
 use Rattle.csv_tables.specs.declared.fault.TableFault.TheVariants as table
-use Rattle.splinter_cli.specs.declared.status.InputStop.{InputStop}
-use Rattle.splinter_cli.specs.declared.status.InputStop.TheVariants as input
-use Rattle.splinter_cli.specs.declared.status.Part.TheVariants as part
-use Rattle.splinter_cli.specs.declared.status.ReadStop.{ReadStop}
-use Rattle.splinter_cli.specs.declared.status.ReadStop.TheVariants as read
-use Rattle.splinter_cli.specs.declared.status.Refusal.{Refusal}
-use Rattle.splinter_cli.specs.declared.status.Refusal.TheVariants as refusal
-use Rattle.splinter_cli.specs.declared.status.Stopped.{Stopped}
-use Rattle.splinter_cli.specs.declared.status.Stopped.TheVariants as stopped
+use Rattle.splinter_status.specs.declared.stops.InputStop.{InputStop}
+use Rattle.splinter_status.specs.declared.stops.InputStop.TheVariants as input
+use Rattle.splinter_status.specs.declared.status.Part.TheVariants as part
+use Rattle.splinter_status.specs.declared.stops.ReadStop.{ReadStop}
+use Rattle.splinter_status.specs.declared.stops.ReadStop.TheVariants as read
+use Rattle.splinter_status.specs.declared.stops.Refusal.{Refusal}
+use Rattle.splinter_status.specs.declared.stops.Refusal.TheVariants as refusal
+use Rattle.splinter_status.specs.declared.stops.Stopped.{Stopped}
+use Rattle.splinter_status.specs.declared.stops.Stopped.TheVariants as stopped
 
 -- a file that isn't held or is too long is a refusal
 abbrev pub read_stop : ReadStop → InputStop

@@ -1,4 +1,4 @@
--- The texts that are printed.
+-- The lines and the numbers of statuses.
 use Rattle.std.specs.Prelude.{ℕ, List, [], ◌++◌, codes}
 use Rattle.std.specs.Fmt.{decimal}
 use Rattle.spl_values.specs.declared.shape_reader.ShapeFault.{ShapeFault}
@@ -7,14 +7,10 @@ use Rattle.spl_values.specs.declared.values.ValueFault.{ValueFault}
 use Rattle.spl_values.specs.declared.values.ValueFault.TheVariants as value
 use Rattle.csv_tables.specs.declared.fault.TableFault.{TableFault}
 use Rattle.csv_tables.specs.declared.fault.TableFault.TheVariants as table
-use Rattle.splinter_cli.specs.declared.status.Status.{Status}
-use Rattle.splinter_cli.specs.declared.status.Status.TheVariants as status
-use Rattle.splinter_cli.specs.declared.status.Part.{Part}
-use Rattle.splinter_cli.specs.declared.status.Part.TheVariants as part
-
--- the words of Zero and One in the one round, and the answer
-abbrev pub answer_text : ℕ → ℕ → ℕ → List ℕ
-answer_text x y n = codes "round 1\n0 " ++ (decimal x ++ (codes "\n1 " ++ (decimal y ++ (codes "\nCOUNT(*) " ++ (decimal n ++ codes "\n")))))
+use Rattle.splinter_status.specs.declared.status.Status.{Status}
+use Rattle.splinter_status.specs.declared.status.Status.TheVariants as status
+use Rattle.splinter_status.specs.declared.status.Part.{Part}
+use Rattle.splinter_status.specs.declared.status.Part.TheVariants as part
 
 -- the name of a part
 abbrev pub part_text : Part → List ℕ

@@ -1,21 +1,22 @@
 //! The last step of a command: it prints its text, or the line of its refusal.
 ghost use Rattle.std.specs.Prelude.{◌≡◌, ◌≢◌, IfSome};
 ghost use Rattle.spl_outside.specs.Causes.{HasCause};
-ghost use Rattle.splinter_cli.specs.Ends.{Reports, EndsAs, status_of, end_of};
-ghost use Rattle.splinter_cli.specs.Texts.{line_of, status_number};
+ghost use Rattle.splinter_status.specs.Ends.{Reports, EndsAs, status_of, end_of};
+ghost use Rattle.splinter_status.specs.Texts.{line_of};
 
-use crate::status::{InputStop, Refusal, Status, Stopped};
+use crate::status::Status;
+use crate::stops::{InputStop, Refusal, Stopped};
 use crate::texts::line;
 use spl_outside::{Sink, Stop};
 use std::alloc::Global;
 
 /// Prints a text, and ends with the status unless it can't be printed.
-pub fn print<O: Sink>(alloc: Global, out: &mut O, text: &str, status: Status) -> Status
+pub fn print<O: Sink>(alloc: Global, out: &mut O, text: &[u8], status: Status) -> Status
     ensures ends { EndsAs status result }
     ensures told { IfSome (O.written out.old) (λ w. Reports w text.now status result (O.written out.new)) }
     ensures cause { HasCause (O.faults out.old) (O.faults out.new) ((result ≡ Status.OutputFault) × (status ≢ Status.OutputFault)) }
 {
-    match out.write(alloc, text.as_bytes()) {
+    match out.write(alloc, text) {
         Ok(()) => status,
         Err(Stop::Failed) => Status::OutputFault,
         Err(Stop::OutOfMemory) => Status::OutOfMemory,
@@ -61,27 +62,8 @@ pub fn refuse<O: Sink>(alloc: Global, out: &mut O, stopped: Stopped) -> Status
     match end_of(stopped) {
         Status::OutOfMemory => Status::OutOfMemory,
         status => match line(alloc, &status) {
-            Ok(text) => print(alloc, out, text.as_str(), status),
+            Ok(text) => print(alloc, out, text.as_bytes(), status),
             Err(_) => Status::OutOfMemory,
         },
-    }
-}
-
-/// The number that the program ends with.
-pub fn number_of(status: &Status) -> u8
-    ensures { result ≡ status_number status.now }
-{
-    match status {
-        Status::Done => 0,
-        Status::Usage => 2,
-        Status::Shape(_) => 5,
-        Status::Table(_) => 6,
-        Status::MissingFile(_) => 11,
-        Status::FileFault => 12,
-        Status::OutputFault => 13,
-        Status::DrawFault => 14,
-        Status::OutOfMemory => 20,
-        Status::FileTooLong(_) => 21,
-        Status::NotBuilt(_) => 30,
     }
 }

@@ -1,4 +1,4 @@
-//! How a command ends, and the errors of its phases.
+//! How a command ends.
 use csv_tables::TableFault;
 use spl_values::{Name, ShapeFault};
 
@@ -37,40 +37,4 @@ pub enum Status {
     FileTooLong(Name),
     /// This part has a form that isn't built yet.
     NotBuilt(Part),
-}
-
-/// Why a file was not read.
-#[derive(Debug, Drop)]
-pub enum ReadStop {
-    Missing(Name),
-    TooLong(Name),
-    Fault,
-    OutOfMemory,
-}
-
-/// What the words and the files refuse. Want of memory is no refusal, and is in no fault here.
-#[derive(Debug, Drop)]
-pub enum Refusal {
-    Usage,
-    Shape(ShapeFault),
-    Table(TableFault),
-    MissingFile(Name),
-    FileTooLong(Name),
-    NotBuilt(Part),
-}
-
-/// Why no words were drawn.
-#[derive(Debug, Drop)]
-pub enum InputStop {
-    Refused(Refusal),
-    FileFault,
-    OutOfMemory,
-}
-
-/// Why there is nothing to print but a refusal.
-#[derive(Debug, Drop)]
-pub enum Stopped {
-    Input(InputStop),
-    DrawFault,
-    OutOfMemory,
 }

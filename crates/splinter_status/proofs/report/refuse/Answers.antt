@@ -1,8 +1,8 @@
 use Rattle.std.proofs.Common.{◌∙◌}
-use Rattle.splinter_cli.proofs.report.refuse.Goals as goal
+use Rattle.splinter_status.proofs.report.refuse.Goals as goal
 
 pub returns-in-Ok-clause-told : goal.returns-in-Ok-clause-told
-returns-in-Ok-clause-told g c = rw (c.as_str.ensures.value, c.in-Ok.ensures, c.end_of.ensures.is) at c.print.ensures.told
+returns-in-Ok-clause-told g c = rw (c.as_bytes.ensures.value, c.in-Ok.ensures, c.end_of.ensures.is) at c.print.ensures.told
 
 pub returns-in-Ok-clause-ends : goal.returns-in-Ok-clause-ends
 returns-in-Ok-clause-ends g c = rw c.end_of.ensures.is at c.print.ensures.ends

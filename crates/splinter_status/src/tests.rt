@@ -1,0 +1,114 @@
+//! The line and the number of each status, and what is printed of them.
+use crate::{InputStop, Part, Refusal, Status, Stopped, line, number_of, print, refuse};
+use csv_tables::TableFault;
+use spl_outside::{MemorySink, SteadySink};
+use spl_values::{Name, ShapeFault, ValueFault};
+use std::alloc::{AllocError, Global};
+
+/// The status has this number and this text.
+fn says(alloc: Global, status: &Status, number: u8, text: &str) -> Result<bool, AllocError> {
+    let line = line(alloc, status)?;
+    let wanted = format!(in alloc; "splinter: {text}\n")?;
+    Ok(number_of(status) == number && line.as_str() == wanted.as_str())
+}
+
+#[test]
+fn says_the_faults_of_shapes(rt: HostRuntime) -> Result<(), AllocError> {
+    for (fault, text) in [
+        (ShapeFault::BadLine(3), "shape: line 3: bad"),
+        (ShapeFault::SameName(5), "shape: line 5: same name"),
+        (
+            ShapeFault::TooManyColumns(27),
+            "shape: line 27: too many columns",
+        ),
+        (ShapeFault::TooManyRows, "shape: line 2: too many rows"),
+    ] {
+        assert!(rt; says(rt.alloc(), &Status::Shape(fault), 5, text)?, "{text}");
+    }
+    Ok(())
+}
+
+#[test]
+fn says_the_faults_of_tables(rt: HostRuntime) -> Result<(), AllocError> {
+    for (fault, text) in [
+        (TableFault::BadHeader, "table: bad header"),
+        (TableFault::RowLength(1), "table: row 1: length"),
+        (TableFault::RowCount(1, 2), "table: 1 rows, not 2"),
+        (
+            TableFault::BadCell(0, 1, ValueFault::NotANumber),
+            "table: row 0, column 1: not a number",
+        ),
+        (
+            TableFault::BadCell(1, 1, ValueFault::TooLarge),
+            "table: row 1, column 1: too large",
+        ),
+        (
+            TableFault::BadCell(1, 0, ValueFault::TooLong(4)),
+            "table: row 1, column 0: too long",
+        ),
+        (
+            TableFault::BadCell(0, 0, ValueFault::BadByte(0)),
+            "table: row 0, column 0: bad byte",
+        ),
+        (
+            TableFault::BadCell(1, 0, ValueFault::NoSuchLabel),
+            "table: row 1, column 0: no such label",
+        ),
+    ] {
+        assert!(rt; says(rt.alloc(), &Status::Table(fault), 6, text)?, "{text}");
+    }
+    Ok(())
+}
+
+#[test]
+fn says_the_parts(rt: HostRuntime) -> Result<(), AllocError> {
+    for (part, text) in [
+        (Part::Table, "not built: table"),
+        (Part::Shape, "not built: shape"),
+        (Part::Query, "not built: query"),
+        (Part::Parameter, "not built: parameter"),
+        (Part::Plan, "not built: plan"),
+    ] {
+        assert!(rt;
+            says(rt.alloc(), &Status::NotBuilt(part), 30, text)?,
+            "{text}"
+        );
+    }
+    Ok(())
+}
+
+#[test]
+fn says_the_other_statuses(rt: HostRuntime) -> Result<(), AllocError> {
+    let alloc = rt.alloc();
+    assert!(rt; says(alloc, &Status::Usage, 2, "usage")?);
+    assert!(rt; says(alloc, &Status::FileFault, 12, "file fault")?);
+    assert!(rt; says(alloc, &Status::DrawFault, 14, "draw fault")?);
+    let name = Name::from_string(String::from_str(alloc, "t.csv")?);
+    assert!(rt; says(alloc, &Status::MissingFile(name), 11, "no file t.csv")?);
+    let name = Name::from_string(String::from_str(alloc, "t.csv")?);
+    assert!(rt; says(alloc, &Status::FileTooLong(name), 21, "file too long t.csv")?);
+    for (status, number) in [
+        (Status::Done, 0),
+        (Status::OutputFault, 13),
+        (Status::OutOfMemory, 20),
+    ] {
+        assert_eq!(rt; number_of(&status), number);
+        assert!(rt; line(alloc, &status)?.as_str() == "", "status {number}");
+    }
+    Ok(())
+}
+
+#[test]
+fn prints_and_refuses(rt: HostRuntime) -> Result<(), AllocError> {
+    let alloc = rt.alloc();
+    let mut out = SteadySink::new(alloc);
+    let done = print(alloc, &mut out, b"COUNT(*) 2\n", Status::Done);
+    assert_eq!(rt; number_of(&done), 0);
+    let usage = Stopped::Input(InputStop::Refused(Refusal::Usage));
+    assert_eq!(rt; number_of(&refuse(alloc, &mut out, usage)), 2);
+    assert!(rt; out.bytes() == b"COUNT(*) 2\nsplinter: usage\n".as_slice());
+    let mut out = MemorySink::new(alloc, vec![in alloc; 1]?);
+    assert_eq!(rt; number_of(&refuse(alloc, &mut out, Stopped::DrawFault)), 13);
+    assert!(rt; out.bytes() == b"".as_slice());
+    Ok(())
+}
