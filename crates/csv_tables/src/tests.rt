@@ -1,5 +1,7 @@
+ghost use Rattle.std.specs.Prelude.{◌<◌, length};
+
 use super::*;
-use spl_values::{ValueFault, read_shape};
+use spl_values::{Table, ValueFault, bits, join_key, read_shape};
 use std::alloc::Global;
 use std::test::Fail;
 
@@ -120,6 +122,36 @@ fn cells_that_need_quotes(rt: HostRuntime) -> Result<(), Fail> {
                 Err(fault) => assert_eq!(rt; Some(fault), None),
             }
         }
+        Err(fault) => assert_eq!(rt; Some(fault), None),
+    }
+    Ok(())
+}
+
+// The key of the first row over two columns, if there is a row and the key has at most 128 bits.
+fn first_key(table: &Table, high: u32, low: u32) -> Option<u128>
+    requires high { high < length table.now.shape.schema.columns }
+    requires low { low < length table.now.shape.schema.columns }
+{
+    let key_bits = bits(&table.column(high).kind) + bits(&table.column(low).kind);
+    if table.shape().rows == 0 || key_bits > 128 {
+        return None;
+    }
+    Some(join_key(table, &[high, low], 0))
+}
+
+#[test]
+fn keys_have_the_first_column_highest(rt: HostRuntime) -> Result<(), Fail> {
+    let alloc = rt.alloc();
+    match read_shape(alloc, FLIGHTS_SHAPE) {
+        Ok(shape) => match read_table(alloc, FLIGHTS, &shape) {
+            Ok(table) => {
+                assert_eq!(rt; table.shape().schema.columns.as_slice().len(), 4);
+                // SFO is 0x53464f, or 5457487, and the month is 3.
+                assert_eq!(rt; first_key(&table, 0, 2), Some(5457487 * 16 + 3));
+                assert_eq!(rt; first_key(&table, 2, 0), Some(3 * 16777216 + 5457487));
+            }
+            Err(fault) => assert_eq!(rt; Some(fault), None),
+        },
         Err(fault) => assert_eq!(rt; Some(fault), None),
     }
     Ok(())
