@@ -1,6 +1,6 @@
 //! Writing fields, one behind the other: into a slice that has room for them, or at the end of a vector. After want
 //! of memory the vector may hold a part of the field, and is given up.
-ghost use Rattle.std.specs.Prelude.{◌≡◌, ◌++◌, ◌+◌, ◌≤◌, [], ◌∷◌, length, take, OnOk};
+ghost use Rattle.std.specs.Prelude.{◌≡◌, ◌++◌, ◌+◌, ◌≤◌, [], ◌∷◌, length, take, drop, OnOk};
 ghost use Rattle.frame_fields.specs.Pieces.{Wrote};
 ghost use Rattle.frame_fields.specs.Reading.{provider_byte};
 ghost use Rattle.std.specs.Int.{w8, w16, w32, w64, w128, to_be_bytes};
@@ -9,10 +9,12 @@ use spl_words::Provider;
 use std::alloc::AllocError;
 
 /// Writes the bytes at a place of a slice that has room for them, and answers the place behind them.
+/// The other bytes stay.
 pub fn put(out: &mut [u8], at: usize, bytes: &[u8]) -> usize
     requires { at + length bytes.now ≤ length out.old }
     ensures at { result ≡ at + length bytes.now }
     ensures front { take result out.new ≡ take at out.old ++ bytes.now }
+    ensures rest { drop result out.new ≡ drop result out.old }
     ensures len { length out.new ≡ length out.old }
 {
     let end = at + bytes.len();
