@@ -1,5 +1,5 @@
 -- The cells of rows of a table can be read, and how long they are.
-use Rattle.std.proofs.Common.{◌≡◌, ℕ, zero, suc, ◌+◌, ◌-◌, ◌*◌, ◌^◌, ◌<◌, ◌≤◌, max, min, Bool, true, false, cond, eqb, List, [], ◌∷◌, ◌++◌, length, map, take, drop, slice_index, slice_get, get_or, All, Option, None, Some, refl, sym, ap, subst, ◌∙◌, inl, inr, arith, IsTrue}
+use Rattle.std.proofs.Common.{◌≡◌, ℕ, zero, suc, ◌+◌, ◌-◌, ◌*◌, ◌^◌, ◌<◌, ◌≤◌, max, min, Bool, eqb, List, [], ◌∷◌, length, map, drop, slice_get, get_or, All, Option, None, Some, refl, sym, ap, subst, ◌∙◌, inl, inr, arith, IsTrue}
 use Rattle.std.specs.List.{AllByRecursion, filter, flat_map, range_with_len}
 use Rattle.std.proofs.lemmas.Bool.{cases_lt}
 use Rattle.std.proofs.lemmas.Bool.Decides.{nat_tests}
@@ -11,19 +11,18 @@ use Rattle.std.proofs.Math.Nat.{add-mul, zero-mul}
 use Rattle.spl_values.specs.Kinds.{is_kind, Fits, text_of, unpadded}
 use Rattle.spl_values.specs.Codes.{code_of, value_with}
 use Rattle.spl_values.specs.Shapes.{ColumnParts, IsColumn}
-use Rattle.spl_values.specs.Tables.{TableParts, IsTable, value_at, FitsRow}
+use Rattle.spl_values.specs.Tables.{TableParts, IsTable, value_at}
 use Rattle.spl_values.specs.declared.kinds.ColumnType.{ColumnType}
 use Rattle.spl_values.specs.declared.kinds.ColumnType.TheVariants.{Uint, Text, Enum}
 use Rattle.spl_values.specs.declared.values.Value.{Value}
 use Rattle.spl_values.specs.declared.values.Value.TheVariants as value
 use Rattle.spl_values.proofs.CodeLaws.{value-with, code-with}
 use Rattle.spl_values.proofs.RowLaws.{row_parts, row-fits}
-use Rattle.cell_merge.specs.declared.entry.Entry.{Entry}
 use Rattle.cell_merge.specs.declared.spec.CellItem.{CellItem}
 use Rattle.cell_merge.specs.declared.spec.CellItem.TheVariants.{Count, Sum, Avg, Max, Min, TopK}
 use Rattle.cell_merge.specs.declared.spec.CellSpec.{CellSpec}
 use Rattle.cell_merge.specs.Rows.{Row, code}
-use Rattle.cell_merge.specs.Entries.{entries_of, words_of, in_order, entry}
+use Rattle.cell_merge.specs.Entries.{in_order, entry}
 use Rattle.cell_merge.specs.Cells.{Addends, item_width, item_words, items_words, block, block_width, blocks, groups, with_label, cell, cell_width, greatest, least}
 use Rattle.cell_merge.specs.TableRows.{HasColumns, SpecFits, kind_in, row_in, rows_of}
 use Rattle.cell_merge.proofs.Lists.{each-map, each-take, each-filter}

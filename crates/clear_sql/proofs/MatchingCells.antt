@@ -1,12 +1,12 @@
 -- The cell of the rows that match, row by row.
 use Rattle.std.proofs.Common.{◌≡◌, ℕ, zero, suc, ◌+◌, ◌<◌, ◌≤◌, ◌^◌, Bool, true, false, ◌&&◌, cond, List, [], ◌∷◌, ◌++◌, length, map, take, get_or, All, refl, sym, ap, subst, ◌∙◌, arith}
-use Rattle.std.specs.List.{AllByRecursion, filter, range_with_len}
+use Rattle.std.specs.List.{filter, range_with_len}
 use Rattle.std.proofs.lemmas.List.{append-nil, take_more, take_all, length-take, length-map}
 use Rattle.std.proofs.lemmas.List.Elements.{filter-append}
 use Rattle.spl_values.specs.Tables.{TableParts, IsTable}
 use Rattle.cell_merge.specs.declared.spec.CellSpec.{CellSpec}
 use Rattle.cell_merge.specs.Rows.{Row, Apart}
-use Rattle.cell_merge.specs.Cells.{Addends, blocks, cell, cell_width, empty_cell, merge}
+use Rattle.cell_merge.specs.Cells.{Addends, blocks, cell, empty_cell, merge}
 use Rattle.cell_merge.specs.TableRows.{adds_in, row_in, rows_of}
 use Rattle.cell_merge.proofs.Lists.{each-take, Interleaves-append, length-filter-le}
 use Rattle.cell_merge.proofs.Labels.{Apart-filter, cell_merge}
@@ -14,7 +14,7 @@ use Rattle.cell_merge.proofs.All.{cell_empty}
 use Rattle.cell_merge.proofs.RowCells.{rows_apart}
 use Rattle.query_reader.specs.declared.checked.Checked.{Checked}
 use Rattle.query_reader.specs.Accepted.{IsCheckedFor}
-use Rattle.query_reader.specs.Matching.{is_kept, kept_rows, some_branch_holds, matching_rows}
+use Rattle.query_reader.specs.Matching.{is_kept, some_branch_holds, matching_rows}
 use Rattle.query_reader.proofs.Known.{checked_fits}
 use Rattle.clear_sql.specs.AnswerText.{GroupFits}
 use Rattle.clear_sql.specs.Clear.{SumsFit, clear}

@@ -1,8 +1,12 @@
 //! Answers by hand, printed.
-use crate::{cell_text, clear_answer, print_answer, sums_fit};
+ghost use Rattle.std.specs.Prelude.{IfOk};
+ghost use Rattle.query_reader.specs.Accepted.{IsCheckedFor};
+ghost use Rattle.query_reader.specs.Params.{AreParamsFor};
+
+use crate::{clear_answer, print_answer, sums_fit};
 use csv_tables::read_table;
-use query_reader::{check_query, laws, params_of_words, read_query};
-use spl_values::{Bytes, read_shape};
+use query_reader::{Checked, Params, check_query, laws, params_of_words, read_query};
+use spl_values::{Bytes, Schema, Table, read_shape};
 use std::test::Fail;
 
 const FLIGHTS: &str =
@@ -11,8 +15,54 @@ const FLIGHTS: &str =
 const FLIGHT_ROWS: &str =
     "origin,dest,month,price\nSFO,JFK,3,300\nSFO,JFK,4,450\nSFO,BOS,3,200\nLAX,JFK,5,310\nSFO,JFK,5,600\n";
 
-/// The text of the clear answer to a query, with parameters that are words, over a table of that shape and those records;
-/// or that its sums are too great.
+fn table_of(rt: &HostRuntime, shape: &str, records: &str) -> Result<Table, Fail> {
+    let shape = read_shape(rt.alloc(), shape.as_bytes())?;
+    Ok(read_table(rt.alloc(), records.as_bytes(), &shape)?)
+}
+
+fn checked_of(rt: &HostRuntime, schema: &Schema, text: &str) -> Result<Checked, Fail>
+    ensures { IfOk result (λ checked. IsCheckedFor checked schema.now) }
+{
+    let query = read_query(rt.alloc(), text)?;
+    Ok(check_query(rt.alloc(), &query, schema)?)
+}
+
+fn words_of(rt: &HostRuntime, text: &str) -> Result<Vec<String>, Fail> {
+    let mut words = Vec::new(rt.alloc());
+    for word in text.split(' ') {
+        words.push(word.to_string(rt.alloc())?)?;
+    }
+    Ok(words)
+}
+
+/// The text of the clear answer to an accepted query, or that its sums are too great.
+fn text_of(
+    rt: &HostRuntime,
+    checked: &Checked,
+    params: &Params,
+    table: &Table,
+) -> Result<Bytes, Fail>
+    requires checked { IsCheckedFor checked.now table.now.shape.schema }
+    requires params { AreParamsFor checked.now table.now.shape.schema params.now }
+{
+    laws::accepted_has_cells();
+    if !sums_fit(&checked.spec, table) {
+        return Ok(Bytes::from_vec(Vec::from_slice(rt.alloc(), b"sums over 64 bits")?));
+    }
+    let answer = clear_answer(rt.alloc(), checked, params, table)?;
+    Ok(print_answer(rt.alloc(), checked, &table.shape().schema, &answer)?)
+}
+
+/// The same of a query with parameters that are words.
+fn query_text(rt: &HostRuntime, table: &Table, query: &str, params: &str) -> Result<Bytes, Fail> {
+    let schema = &table.shape().schema;
+    let checked = checked_of(rt, schema, query)?;
+    let words = words_of(rt, params)?;
+    let params = params_of_words(rt.alloc(), &checked, schema, words.as_slice())?;
+    text_of(rt, &checked, &params, table)
+}
+
+/// The same over a table of that shape and those records.
 fn answer_of(
     rt: &HostRuntime,
     shape: &str,
@@ -20,22 +70,8 @@ fn answer_of(
     query: &str,
     params: &str,
 ) -> Result<Bytes, Fail> {
-    let shape = read_shape(rt.alloc(), shape.as_bytes())?;
-    let table = read_table(rt.alloc(), records.as_bytes(), &shape)?;
-    let schema = &table.shape().schema;
-    let query = read_query(rt.alloc(), query)?;
-    let checked = check_query(rt.alloc(), &query, schema)?;
-    let mut words = Vec::new(rt.alloc());
-    for word in params.split(' ') {
-        words.push(word.to_string(rt.alloc())?)?;
-    }
-    let params = params_of_words(rt.alloc(), &checked, schema, words.as_slice())?;
-    laws::accepted_has_cells();
-    if !sums_fit(&checked.spec, &table) {
-        return Ok(Bytes::from_vec(Vec::from_slice(rt.alloc(), b"sums over 64 bits")?));
-    }
-    let answer = clear_answer(rt.alloc(), &checked, &params, &table)?;
-    Ok(print_answer(rt.alloc(), &checked, schema, &answer)?)
+    let table = table_of(rt, shape, records)?;
+    query_text(rt, &table, query, params)
 }
 
 /// Counts, sums and means over flights: between two prices, both taken in; over none; and a row once that two branches

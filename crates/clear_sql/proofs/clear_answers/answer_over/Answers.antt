@@ -1,4 +1,4 @@
-use Rattle.std.proofs.Common.{◌≡◌, length, ap, ◌∙◌}
+use Rattle.std.proofs.Common.{length, ap, ◌∙◌}
 use Rattle.cell_merge.specs.TableRows.{adds_in}
 use Rattle.query_reader.specs.Matching.{matching_rows}
 use Rattle.clear_sql.proofs.GoodCells.{length-cell}

@@ -1,4 +1,4 @@
-use Rattle.std.proofs.Common.{◌≡◌, ◌<◌, ◌^◌, Bool, true, false, not, length, ap, sym, ◌∙◌, arith, refl}
+use Rattle.std.proofs.Common.{◌<◌, ◌^◌, length, ap, sym, ◌∙◌, arith}
 use Rattle.cell_merge.specs.Cells.{cell, merge}
 use Rattle.cell_merge.specs.TableRows.{adds_in}
 use Rattle.clear_sql.specs.FirstRows.{first_matching}

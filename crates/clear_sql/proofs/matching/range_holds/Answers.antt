@@ -1,4 +1,4 @@
-use Rattle.std.proofs.Common.{◌≡◌, slice_index, sym, ◌∙◌}
+use Rattle.std.proofs.Common.{slice_index, sym, ◌∙◌}
 use Rattle.cell_merge.specs.TableRows.{row_in}
 use Rattle.clear_sql.proofs.Branches.{low_enough, too_low, range_some, range_none}
 use Rattle.clear_sql.proofs.matching.range_holds.Goals as goal

@@ -1,4 +1,4 @@
-use Rattle.std.proofs.Common.{◌≡◌, ◌<◌, ◌≤◌, length, ap, ◌∙◌, arith, refl}
+use Rattle.std.proofs.Common.{◌<◌, ◌≤◌, length, ap, ◌∙◌, arith, refl}
 use Rattle.spl_values.specs.Shapes.{ShapeParts}
 use Rattle.cell_merge.specs.Cells.{addend}
 use Rattle.cell_merge.specs.TableRows.{adds_in}
