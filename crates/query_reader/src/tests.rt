@@ -222,7 +222,7 @@ fn too_many_question_marks(rt: HostRuntime) -> Result<(), Fail> {
     let front = format!(in rt.alloc(); "SELECT COUNT(*) FROM t WHERE {}", branch.as_str())?;
     let text = repeated(&rt, front.as_str(), other.as_str(), 7, "")?;
     let checked = checked(&rt, &schema, text.as_str())?;
-    let codes = [0u128; 256];
+    let codes = vec![in rt.alloc(); 0u128; 256]?;
     let fault = params_of_codes(rt.alloc(), &checked, &schema, codes.as_slice());
     assert!(rt; matches!(fault, Err(ParamFault::Count(256, 256))));
     let words = Vec::new(rt.alloc());
