@@ -1,4 +1,4 @@
-use Rattle.std.proofs.Common.{◌≡◌, ◌^◌, ◌<◌, true, length, sym, ◌∙◌, arith}
+use Rattle.std.proofs.Common.{◌≡◌, ◌^◌, ◌<◌, true, length, sym, ◌∙◌}
 use Rattle.cell_merge.specs.Cells.{cell_width}
 use Rattle.cell_merge.specs.TableRows.{row_in}
 use Rattle.query_reader.specs.Matching.{is_kept}

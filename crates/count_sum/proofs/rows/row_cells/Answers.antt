@@ -1,4 +1,4 @@
-use Rattle.std.proofs.Common.{◌≤◌, List, sym, subst, arith, rules}
+use Rattle.std.proofs.Common.{List, sym, subst, arith, rules}
 use Rattle.cell_merge.specs.Rows.{Row}
 use Rattle.count_sum.specs.SumPairs.{AreRowCells}
 use Rattle.count_sum.proofs.KeptRows.{rows_to, rows_to-more}

@@ -1,4 +1,3 @@
-use Rattle.std.proofs.Common.{◌≡◌}
 use Rattle.count_sum.specs.SumPairs.{AreRowCells}
 use Rattle.count_sum.proofs.KeptRows.{rows_to}
 use Rattle.count_sum.proofs.rows.row_cells.Given as goal
