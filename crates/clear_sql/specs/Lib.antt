@@ -1,3 +1,4 @@
 pub mod Clear
 pub mod CellAnswers
 pub mod AnswerText
+pub mod FirstRows

@@ -2,10 +2,14 @@
 ghost use Rattle.std.specs.Prelude.{◌≡◌, ℕ, All, Bool, List, length};
 ghost use Rattle.std.specs.List.{filter};
 ghost use Rattle.spl_values.specs.Shapes.{ColumnParts};
+ghost use Rattle.spl_values.specs.Tables.{TableParts, IsTable};
 ghost use Rattle.cell_merge.specs.declared.spec.CellSpec.{CellSpec};
 ghost use Rattle.cell_merge.specs.Rows.{Row};
 ghost use Rattle.cell_merge.specs.Cells.{blocks, cell, cell_width};
-ghost use Rattle.cell_merge.specs.TableRows.{SpecFits, adds_in};
+ghost use Rattle.cell_merge.specs.TableRows.{SpecFits, adds_in, rows_of};
+ghost use Rattle.query_reader.specs.declared.checked.Checked.{Checked as TheChecked};
+ghost use Rattle.query_reader.specs.Accepted.{IsCheckedFor};
+ghost use Rattle.query_reader.specs.Matching.{matching_rows};
 ghost use Rattle.clear_sql.specs.Clear.{SumsFit, clear};
 ghost use Rattle.clear_sql.specs.AnswerText.{GroupFits};
 ghost use Rattle.clear_sql.specs.CellAnswers.{BlocksRead, answer_of};
@@ -21,4 +25,19 @@ pub fn cells_stand_for_clear_answers()
 pub fn answers_of_cells_can_be_printed()
     ensures { (columns : List ColumnParts) (spec : CellSpec) (cell : List ℕ) → SpecFits spec columns → length cell ≡ cell_width spec → BlocksRead columns spec.items (blocks spec.group spec.labels) cell
         → All (GroupFits columns spec) (answer_of columns spec cell) }
+{}
+
+/// The cell of those rows of a table that pass a test can be read.
+pub fn cells_of_rows_can_be_read()
+    ensures { (table : TableParts) (spec : CellSpec) (keeps : Row → Bool) → IsTable table → SpecFits spec table.shape.schema.columns
+        → BlocksRead table.shape.schema.columns spec.items (blocks spec.group spec.labels) (cell (adds_in table.shape.schema.columns) spec (filter keeps (rows_of table))) }
+{}
+
+/// The cell of the rows that match an accepted query can be read, and where the sums over all rows are within their bounds
+/// it stands for the query's clear answer.
+pub fn matching_cells_stand_for_clear_answers()
+    ensures read { (checked : TheChecked) (params : List ℕ) (table : TableParts) → IsTable table → IsCheckedFor checked table.shape.schema
+        → BlocksRead table.shape.schema.columns checked.spec.items (blocks checked.spec.group checked.spec.labels) (cell (adds_in table.shape.schema.columns) checked.spec (matching_rows checked params table)) }
+    ensures clear { (checked : TheChecked) (params : List ℕ) (table : TableParts) → SumsFit table.shape.schema.columns checked.spec.items (rows_of table)
+        → answer_of table.shape.schema.columns checked.spec (cell (adds_in table.shape.schema.columns) checked.spec (matching_rows checked params table)) ≡ clear table.shape.schema.columns checked.spec (matching_rows checked params table) }
 {}

@@ -1,17 +1,25 @@
-//! Answers of queries: what the clear answer over some rows is, the answer that a cell stands for, and the text of an
-//! answer. The call that computes clear answers from a table, and those that take a checked query, are to come.
+//! Answers of queries: the clear answer over a table, the answer that a cell stands for, and the text of an answer.
 #![tactic(auto)]
 
 mod answer;
+#[cfg(test)]
+mod cell_tests;
+mod clear_answers;
 mod columns;
 pub mod laws;
+mod matching;
 mod printing;
+mod queries;
 mod reading;
+mod sums;
 #[cfg(test)]
 mod tests;
 mod texts;
 
 pub use answer::{Answer, Group, Groups, Outcome, Outcomes, TopRow, TopRows};
+pub use clear_answers::clear_answer;
 pub use printing::answer_text;
+pub use queries::{answer_of_cell, print_answer};
 pub use reading::cell_answer;
+pub use sums::sums_fit;
 pub use texts::cell_text;

@@ -147,8 +147,8 @@ fn push_label(
     requires words { ItemsRead columns.now items.now (drop 1 block.now) }
     ensures { OnOk result (groups.new.items ≡ groups.old.items ++ label_group columns.now items.now label block.now) }
 {
-    let count = block[0];
-    if count == 0 {
+    let rows = block[0];
+    if rows == 0 {
         return Ok(());
     }
     let results = results_of(alloc, columns, items, block)?;

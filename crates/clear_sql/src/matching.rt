@@ -1,0 +1,114 @@
+//! Which rows of a table match a query.
+ghost use Rattle.std.specs.Prelude.{◌≡◌, ◌*◌, ◌<◌, All, [], ◌∷◌, true, length};
+ghost use Rattle.cell_merge.specs.Rows.{code as code_at};
+ghost use Rattle.cell_merge.specs.TableRows.{row_in};
+ghost use Rattle.query_reader.specs.Matching.{bound_holds as bound_test, branch_holds as branch_test, branch_params, is_kept as kept_test, some_branch_holds as branches_test};
+
+use spl_values::{Table, encode};
+
+// The code of a row in a column, both counted from 0.
+fn code_in(table: &Table, row: u32, column: u32) -> u128
+    requires row { row < table.now.shape.rows }
+    requires column { column < length table.now.shape.schema.columns }
+    ensures { result ≡ code_at column (row_in table.now row) }
+{
+    let _ = table.shape();
+    let found = table.column(column);
+    encode(&found.kind, table.value(row, column))
+}
+
+// Whether a public condition holds of a row.
+fn bound_holds(table: &Table, row: u32, bound: &(u32, u128, u128)) -> bool
+    requires row { row < table.now.shape.rows }
+    requires column { bound.now.0 < length table.now.shape.schema.columns }
+    ensures { result ≡ bound_test (row_in table.now row) bound.now }
+{
+    let (column, least, greatest) = *bound;
+    let code = code_in(table, row, column);
+    least <= code && code <= greatest
+}
+
+/// Whether every public condition holds of a row, counted from 0.
+pub(crate) fn is_kept(bounds: &[(u32, u128, u128)], table: &Table, row: u32) -> bool
+    requires row { row < table.now.shape.rows }
+    requires columns { All (λ bound. bound.0 < length table.now.shape.schema.columns) bounds.now }
+    ensures { result ≡ kept_test bounds.now (row_in table.now row) }
+{
+    for bound in bounds {
+        if !bound_holds(table, row, bound) {
+            return false;
+        }
+    }
+    true
+}
+
+// Whether a range holds of a row, with the first two of these parameters.
+fn range_holds(column: u32, params: &[u128], table: &Table, row: u32) -> bool
+    requires row { row < table.now.shape.rows }
+    requires column { column < length table.now.shape.schema.columns }
+    ensures { result ≡ branch_test (column ∷ []) true params.now (row_in table.now row) }
+{
+    let code = code_in(table, row, column);
+    match params {
+        [least, greatest, ..] => *least <= code && code <= *greatest,
+        _ => false,
+    }
+}
+
+// Whether a branch holds of a row, with the first of these parameters.
+fn branch_holds(columns: &[u32], range: bool, params: &[u128], table: &Table, row: u32) -> bool
+    requires row { row < table.now.shape.rows }
+    requires columns { All (λ column. column < length table.now.shape.schema.columns) columns.now }
+    ensures { result ≡ branch_test columns.now range params.now (row_in table.now row) }
+{
+    match columns {
+        [] => true,
+        [column, more @ ..] => {
+            if range && more.is_empty() {
+                return range_holds(*column, params, table, row);
+            }
+            match params {
+                [] => false,
+                [param, others @ ..] => {
+                    code_in(table, row, *column) == *param
+                        && branch_holds(more, range, others, table, row)
+                }
+            }
+        }
+    }
+}
+
+// How many parameters a branch has.
+fn param_count(columns: &[u32], range: bool) -> usize
+    ensures { result ≡ branch_params columns.now range }
+{
+    if range {
+        columns.len() + 1
+    } else {
+        columns.len()
+    }
+}
+
+/// Whether one of so many branches holds of a row, counted from 0, each with its own parameters.
+pub(crate) fn some_branch_holds(
+    branches: u32,
+    columns: &[u32],
+    range: bool,
+    params: &[u128],
+    table: &Table,
+    row: u32,
+) -> bool
+    requires row { row < table.now.shape.rows }
+    requires columns { All (λ column. column < length table.now.shape.schema.columns) columns.now }
+    requires params { length params.now ≡ branches * branch_params columns.now range }
+    ensures { result ≡ branches_test branches columns.now range params.now (row_in table.now row) }
+{
+    let each = param_count(columns, range);
+    for i in 0..branches {
+        let at = i as usize * each;
+        if branch_holds(columns, range, &params[at..at + each], table, row) {
+            return true;
+        }
+    }
+    false
+}

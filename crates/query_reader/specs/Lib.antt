@@ -1,0 +1,6 @@
+pub mod Uses
+pub mod Columns
+pub mod Refusals
+pub mod Accepted
+pub mod Matching
+pub mod Params
