@@ -1,22 +1,20 @@
 -- What is known of a query that is built, and the answer of its one word.
-use Rattle.std.proofs.Common.{◌≡◌, ℕ, zero, suc, ◌+◌, ◌*◌, ◌<◌, ◌&&◌, ◌==◌, Bool, true, false, not, is_none, List, [], ◌∷◌, ◌++◌, length, map, Option, Some, None, refl, sym, ap, subst, ◌∙◌, arith, All}
+use Rattle.std.proofs.Common.{◌≡◌, ℕ, ◌==◌, Bool, true, false, not, is_none, List, [], ◌∷◌, ◌++◌, length, map, Option, Some, None, refl, sym, ap, ◌∙◌, arith}
 use Rattle.std.specs.List.{AllZip, filter, count_by}
 use Rattle.std.proofs.lemmas.Bool.{and_parts, eqb-true}
 use Rattle.std.proofs.lemmas.List.Sums.{length-filter}
 use Rattle.std.proofs.lemmas.Slice.Zip.{AllZip-long}
-use Rattle.spl_values.specs.Shapes.{SchemaParts, ColumnParts, IsColumn}
-use Rattle.spl_values.specs.Tables.{TableParts, IsTable, FitsRow}
+use Rattle.spl_values.specs.Shapes.{SchemaParts, ColumnParts}
+use Rattle.spl_values.specs.Tables.{TableParts, IsTable}
 use Rattle.query_grammar.specs.declared.item.Item.{Item}
 use Rattle.query_grammar.specs.declared.item.Item.TheVariants as item
 use Rattle.query_grammar.specs.declared.condition.Public.{Public}
 use Rattle.cell_merge.specs.declared.spec.CellItem.TheVariants.{Count}
-use Rattle.cell_merge.specs.declared.spec.CellSpec.{CellSpec}
 use Rattle.cell_merge.specs.Cells.{blocks, cell_width, items_width}
 use Rattle.cell_merge.specs.Rows.{Row}
 use Rattle.cell_merge.specs.TableRows.{rows_of}
 use Rattle.query_reader.specs.Accepted.{IsCheckedFor, bound_of}
-use Rattle.query_reader.specs.Refusals.{spec_of, cell_item}
-use Rattle.query_reader.specs.Columns.{place_of}
+use Rattle.query_reader.specs.Refusals.{cell_item}
 use Rattle.query_reader.specs.Matching.{is_kept, kept_rows, branch_holds, some_branch_holds, matching_rows}
 use Rattle.query_reader.specs.Params.{HasBits, AreParamsFor, branch_columns, times, param_columns}
 use Rattle.query_reader.specs.declared.checked.Checked.{Checked}

@@ -1,20 +1,19 @@
 -- The rows that match one branch of equalities are those whose joined key is that of the parameters.
-use Rattle.std.proofs.Common.{◌≡◌, ℕ, suc, zero, ◌+◌, ◌*◌, ◌^◌, ◌<◌, ◌≤◌, ◌==◌, ◌&&◌, ◌||◌, Bool, true, false, List, [], ◌∷◌, ◌++◌, length, map, take, drop, get_or, cond, slice_index, All, Some, refl, sym, ap, subst, ◌∙◌, arith, IsTrue, drop-cons, add-one}
+use Rattle.std.proofs.Common.{◌≡◌, ℕ, suc, zero, ◌+◌, ◌*◌, ◌^◌, ◌<◌, ◌≤◌, ◌==◌, ◌&&◌, Bool, true, false, List, [], ◌∷◌, ◌++◌, length, map, take, drop, get_or, cond, slice_index, All, refl, sym, ap, ◌∙◌, arith, drop-cons, add-one}
 use Rattle.std.specs.List.{AllZip, filter, count_by, range_with_len}
 use Rattle.std.proofs.Math.Seq.{take-length}
 use Rattle.std.proofs.Math.Bool.{or-false}
 use Rattle.std.proofs.Math.Nat.{add-mul, mul-le-mul_right}
 use Rattle.std.proofs.lemmas.Bool.Decides.{nat_tests}
-use Rattle.std.proofs.lemmas.List.Sums.{sum_by-cons, length-filter}
-use Rattle.spl_values.specs.Codes.{code_of}
+use Rattle.std.proofs.lemmas.List.Sums.{sum_by-cons}
 use Rattle.spl_values.specs.Shapes.{ColumnParts, IsColumn}
-use Rattle.spl_values.specs.Tables.{TableParts, IsTable, FitsRow, column_bits, column_code, key_bits, key_of}
+use Rattle.spl_values.specs.Tables.{TableParts, FitsRow, column_code, key_bits, key_of}
 use Rattle.spl_values.specs.declared.values.Value.{Value}
 use Rattle.spl_values.proofs.RowLaws.{keys_below, key_of-cons, key_of-nil, key_bits-nil}
-use Rattle.cell_merge.specs.Rows.{Row, code}
-use Rattle.cell_merge.specs.TableRows.{codes_of, row_in, rows_of}
-use Rattle.query_reader.specs.Matching.{bound_holds, is_kept, branch_params, branch_holds, some_branch_holds}
-use Rattle.query_reader.specs.Params.{HasBits, branch_columns, times}
+use Rattle.cell_merge.specs.Rows.{Row}
+use Rattle.cell_merge.specs.TableRows.{codes_of, row_in}
+use Rattle.query_reader.specs.Matching.{branch_holds, some_branch_holds}
+use Rattle.query_reader.specs.Params.{HasBits, branch_columns}
 use Rattle.splinter_cli.specs.Shares.{joined}
 use Rattle.splinter_cli.proofs.Keys.{joined-nil, joined-cons, joined_below}
 

@@ -1,4 +1,4 @@
-use Rattle.std.proofs.Common.{◌≡◌, ◌∙◌, ◌==◌, ℕ, List, length, ap, refl, subst, IfOk}
+use Rattle.std.proofs.Common.{◌≡◌, ◌∙◌, ◌==◌, length, ap, subst, IfOk}
 use Rattle.std.specs.List.{count_by}
 use Rattle.spl_values.specs.Shapes.{ShapeParts}
 use Rattle.query_reader.specs.Matching.{matching_rows}

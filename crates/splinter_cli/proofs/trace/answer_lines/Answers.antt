@@ -1,4 +1,4 @@
-use Rattle.std.proofs.Common.{◌≡◌, ◌∙◌, List, [], ◌∷◌, ap, subst, IfOk}
+use Rattle.std.proofs.Common.{◌≡◌, ◌∙◌, [], ◌∷◌, ap, subst, IfOk}
 use Rattle.spl_values.specs.Shapes.{ShapeParts}
 use Rattle.query_reader.specs.Matching.{matching_rows}
 use Rattle.clear_sql.specs.AnswerText.{answer_text}
