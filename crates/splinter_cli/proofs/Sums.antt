@@ -1,6 +1,6 @@
 -- Sums modulo 2 ^ 64, and what the two providers' sums come to.
 use Rattle.std.proofs.Common.{◌≡◌, ℕ, suc, ◌+◌, ◌%◌, ◌^◌, ◌<◌, nat_eq, List, [], ◌∷◌, length, get_or, All, refl, sym, ap, ◌∙◌, add-zero, arith}
-use Rattle.std.specs.Prelude.{sum_by}
+use Rattle.std.specs.Prelude.{◌==◌, sum_by, count_by}
 use Rattle.std.proofs.Math.Nat.{add-mod-mod, mod-add-mod, mod-eq_of_lt}
 use Rattle.std.proofs.lemmas.List.Sums.{sum_by-cons, count_by-le-length}
 use Rattle.spl_words.specs.Words.{plus}
@@ -8,7 +8,7 @@ use Rattle.spl_words.specs.Secrets.{point_value}
 use Rattle.spl_words.specs.declared.provider.Provider.TheVariants.{Zero, One}
 use Rattle.point_keys.specs.Points.{PointSharesAdd}
 use Rattle.seed_expansion.specs.ChaChaExpansion.{chacha}
-use Rattle.splinter_cli.specs.Shares.{share_sum, share_at, count_of, secret_of}
+use Rattle.splinter_cli.specs.Shares.{share_sum, share_at, secret_of}
 
 -- one number more
 pub sum_step : (total more rest : ℕ) → (plus total more + rest) % 2 ^ 64 ≡ (total + (more + rest)) % 2 ^ 64
@@ -35,15 +35,15 @@ both f g h (x ∷ xs) each =
     (four (f x) (sum_by f xs) (g x) (sum_by g xs) ∙ ap (λ n. (n + (sum_by f xs + sum_by g xs) % 2 ^ 64) % 2 ^ 64) first ∙ ap (λ n. (h x + n) % 2 ^ 64) rest
     ∙ add-mod-mod (h x) (sum_by h xs) (2 ^ 64))
 
--- the sums of both providers add up to the count
-pub sums_count : PointSharesAdd chacha → (bits code : ℕ) (roots : ℕ × ℕ) (codes : List ℕ) → code < 2 ^ bits → length codes < 2 ^ 64
-    → All (λ c. c < 2 ^ bits) codes
-    → plus (share_sum Zero (secret_of bits code) roots codes) (share_sum One (secret_of bits code) roots codes) ≡ count_of code codes
+-- the sums of both providers add up to the number of keys that are the secret one
+pub sums_count : PointSharesAdd chacha → (bits key : ℕ) (roots : ℕ × ℕ) (keys : List ℕ) → key < 2 ^ bits → length keys < 2 ^ 64
+    → All (λ k. k < 2 ^ bits) keys
+    → plus (share_sum Zero (secret_of bits key) roots keys) (share_sum One (secret_of bits key) roots keys) ≡ count_by (λ k. k == key) keys
 unfolding share_sum
-sums_count law bits code roots codes small short each =
-    let f : ℕ → ℕ = share_at Zero (secret_of bits code) roots in
-    let g : ℕ → ℕ = share_at One (secret_of bits code) roots in
-    let at_most = count_by-le-length (λ n. nat_eq n code) codes in
-    mod-add-mod (sum_by f codes) (2 ^ 64) (sum_by g codes % 2 ^ 64) ∙ add-mod-mod (sum_by f codes) (sum_by g codes) (2 ^ 64)
-    ∙ both f g (point_value code 1) codes (λ k below. law 0 (secret_of bits code) roots (get_or codes k 0) small (omega arith) (each k 0 below))
+sums_count law bits key roots keys small short each =
+    let f : ℕ → ℕ = share_at Zero (secret_of bits key) roots in
+    let g : ℕ → ℕ = share_at One (secret_of bits key) roots in
+    let at_most = count_by-le-length (λ n. nat_eq n key) keys in
+    mod-add-mod (sum_by f keys) (2 ^ 64) (sum_by g keys % 2 ^ 64) ∙ add-mod-mod (sum_by f keys) (sum_by g keys) (2 ^ 64)
+    ∙ both f g (point_value key 1) keys (λ i below. law 0 (secret_of bits key) roots (get_or keys i 0) small (omega arith) (each i 0 below))
     ∙ mod-eq_of_lt (omega (arith, at_most, short))

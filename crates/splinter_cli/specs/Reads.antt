@@ -1,17 +1,19 @@
--- What files give: bytes, a shape, and the codes of a column.
-use Rattle.std.specs.Prelude.{ℕ, nat_le, List, length, map, Option, Some, None, Result, Ok, Err, if◌then◌else◌}
+-- What files give: bytes, a shape, and a table.
+use Rattle.std.specs.Prelude.{ℕ, nat_le, List, length, Option, Some, None, Result, Ok, Err, if◌then◌else◌}
 use Rattle.std.specs.FinMap.{get}
 use Rattle.spl_outside.specs.Content.{FileMap}
 use Rattle.spl_words.specs.Results.{◌>>=◌}
 use Rattle.spl_values.specs.Shapes.{ShapeParts}
 use Rattle.spl_values.specs.ShapeTexts.{shape_of}
-use Rattle.spl_values.specs.Tables.{column_code}
+use Rattle.spl_values.specs.Tables.{TableParts}
 use Rattle.spl_values.specs.declared.values.Value.{Value}
 use Rattle.spl_values.specs.declared.shape_reader.ShapeFault.{ShapeFault}
 use Rattle.csv_tables.specs.Reading.{table_of_text}
 use Rattle.csv_tables.specs.declared.fault.TableFault.{TableFault}
 use Rattle.splinter_status.specs.declared.stops.Refusal.{Refusal}
 use Rattle.splinter_status.specs.declared.stops.Refusal.TheVariants as refusal
+
+-- ---- files
 
 -- a file that is read has at most 67108864 bytes
 abbrev pub file_limit : ℕ
@@ -26,6 +28,8 @@ bytes_of name (Some bytes) = if nat_le (length bytes) file_limit then Ok bytes e
 abbrev pub file_of : FileMap → List ℕ → Result (List ℕ) Refusal
 file_of files name = bytes_of name (get files name)
 
+-- ---- shapes
+
 -- a shape, or the refusal of a text that describes none
 abbrev pub or_shape_refusal : Result ShapeParts ShapeFault → Result ShapeParts Refusal
 or_shape_refusal (Ok shape) = Ok shape
@@ -37,13 +41,15 @@ shape_in files name = do
   text ← file_of files name
   or_shape_refusal (shape_of text)
 
--- the codes in the column of that number, row by row, or the refusal of a text without rows of the shape
-abbrev pub codes_or_refusal : ShapeParts → ℕ → Result (List (List Value)) TableFault → Result (List ℕ) Refusal
-codes_or_refusal shape place (Ok rows) = Ok (map (λ row. column_code shape.schema.columns row place) rows)
-codes_or_refusal shape place (Err fault) = Err (refusal.Table fault)
+-- ---- tables
 
--- the codes in a column of a file's table, row by row
-unfoldable pub codes_in : FileMap → List ℕ → ShapeParts → ℕ → Result (List ℕ) Refusal
-codes_in files name shape place = do
+-- a table, or the refusal of a text without rows of the shape
+abbrev pub or_table_refusal : ShapeParts → Result (List (List Value)) TableFault → Result TableParts Refusal
+or_table_refusal shape (Ok rows) = Ok (record { shape = shape; rows = rows })
+or_table_refusal shape (Err fault) = Err (refusal.Table fault)
+
+-- the table of a shape that a file has
+unfoldable pub table_in : FileMap → List ℕ → ShapeParts → Result TableParts Refusal
+table_in files name shape = do
   text ← file_of files name
-  codes_or_refusal shape place (table_of_text shape text)
+  or_table_refusal shape (table_of_text shape text)

@@ -1,6 +1,9 @@
 -- What the two providers answer.
-use Rattle.std.specs.Prelude.{ℕ, ◌+◌, ◌*◌, ◌%◌, ◌^◌, ◌==◌, List, ◌++◌, drop, sum_by, count_by, codes}
+use Rattle.std.specs.Prelude.{ℕ, ◌+◌, ◌*◌, ◌%◌, ◌^◌, List, ◌∷◌, ◌++◌, map, drop, sum_by, codes}
 use Rattle.std.specs.Fmt.{decimal}
+use Rattle.spl_values.specs.Shapes.{ColumnParts}
+use Rattle.spl_values.specs.Tables.{TableParts}
+use Rattle.spl_values.specs.Tables as keys
 use Rattle.spl_outside.specs.Content.{first_or_zero}
 use Rattle.spl_words.specs.Secrets.{Secret}
 use Rattle.spl_words.specs.declared.secret.TreeKind.TheVariants.{Point}
@@ -39,10 +42,15 @@ share_at p secret roots code = point_share chacha p 0 (key_of p secret roots) co
 unfoldable pub share_sum : Provider → Secret → ℕ × ℕ → List ℕ → ℕ
 share_sum p secret roots codes = sum_by (share_at p secret roots) codes % 2 ^ 64
 
--- how many of the codes are this one; codes of different values differ, so it is the number of the rows that have the value of this code
-abbrev pub count_of : ℕ → List ℕ → ℕ
-count_of code codes = count_by (λ c. c == code) codes
+-- the lines of a round: the words of Zero and One
+abbrev pub round_text : ℕ → ℕ → List ℕ
+round_text x y = codes "round 1\n0 " ++ (decimal x ++ (codes "\n1 " ++ (decimal y ++ codes "\n")))
 
--- the words of Zero and One in the one round, and the answer
-abbrev pub answer_text : ℕ → ℕ → ℕ → List ℕ
-answer_text x y n = codes "round 1\n0 " ++ (decimal x ++ (codes "\n1 " ++ (decimal y ++ (codes "\nCOUNT(*) " ++ (decimal n ++ codes "\n")))))
+-- the keys of a table's rows over columns of these numbers
+abbrev pub row_keys : TableParts → List ℕ → List ℕ
+row_keys table columns = map (λ row. keys.key_of table.shape.schema.columns row columns) table.rows
+
+-- codes one after another in binary, each in the bits of its column, the first one highest
+unfoldable pub joined : List ColumnParts → List ℕ → List ℕ → ℕ
+joined columns (i ∷ is) (c ∷ cs) = c * 2 ^ keys.key_bits columns is + joined columns is cs
+joined columns _ _ = 0

@@ -13,8 +13,8 @@ pub struct TraceWords<'a> {
     pub table: &'a str,
     /// The query.
     pub query: &'a str,
-    /// The value that is looked for.
-    pub parameter: &'a str,
+    /// The query's parameters, at least one.
+    pub parameters: &'a [String],
 }
 
 /// A command with its words.
@@ -29,12 +29,14 @@ fn trace_command(words: &[String]) -> Option<Command<'_>>
     ensures { option_map order result ≡ trace_order (map string_bytes words.now) }
 {
     match words {
-        [shape, table, query, parameter] => Some(Command::Trace(TraceWords {
-            shape: shape.as_str(),
-            table: table.as_str(),
-            query: query.as_str(),
-            parameter: parameter.as_str(),
-        })),
+        [shape, table, query, parameters @ ..] if !parameters.is_empty() => {
+            Some(Command::Trace(TraceWords {
+                shape: shape.as_str(),
+                table: table.as_str(),
+                query: query.as_str(),
+                parameters,
+            }))
+        }
         _ => None,
     }
 }

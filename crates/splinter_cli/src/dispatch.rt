@@ -21,8 +21,8 @@ pub fn dispatch<F: Files, R: Draw>(
     words: &[String],
     files: &mut F,
     draw: &mut R,
-) -> Result<String, Stopped>
-    ensures told { IfSome (F.held files.old) (λ m. Meets string_bytes (judged (order_of (map string_bytes words.now)) m) (R.words draw.old) (R.words draw.new) result) }
+) -> Result<Vec<u8>, Stopped>
+    ensures told { IfSome (F.held files.old) (λ m. Meets (λ text. text.items) (judged (order_of (map string_bytes words.now)) m) (R.words draw.old) (R.words draw.new) result) }
     ensures no_command { IfNone (order_of (map string_bytes words.now)) ((result ≡ Err (stopped.Input (input.Refused refusal.Usage))) × (files.new ≡ files.old)) }
     ensures command { IfSome (order_of (map string_bytes words.now)) (λ _. IfErr result EndsAtFiles) }
     ensures undrawn { (s : _) → result ≡ Err (stopped.Input s) → draw.new ≡ draw.old }

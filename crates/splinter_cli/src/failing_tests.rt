@@ -59,9 +59,9 @@ fn refuses_before_a_call_that_would_fail(rt: HostRuntime) -> Result<(), AllocErr
         draw: 1,
         out: 0,
     };
-    let left = trace_of(rt.alloc(), "long", fails)?;
-    assert_eq!(rt; left.number, 30);
-    assert!(rt; left.printed.as_slice() == b"splinter: not built: parameter\n".as_slice());
+    let left = trace_of(rt.alloc(), "SFOX", fails)?;
+    assert_eq!(rt; left.number, 4);
+    assert!(rt; left.printed.as_slice() == b"splinter: parameter 0: too long\n".as_slice());
     assert_eq!(rt; left.next, 1);
     Ok(())
 }

@@ -1,7 +1,6 @@
 //! Private SQL over two providers: the command line.
 #![tactic(auto)]
 
-mod codes;
 mod commands;
 #[cfg(test)]
 mod count_tests;
@@ -10,7 +9,7 @@ mod draws;
 #[cfg(test)]
 mod failing_tests;
 mod host;
-mod questions;
+mod queries;
 #[cfg(test)]
 mod refusal_tests;
 mod run;
@@ -19,6 +18,7 @@ mod steps;
 #[cfg(test)]
 mod testing;
 mod trace;
+mod traced;
 
 use std::alloc::Global;
 use std::process::ExitCode;

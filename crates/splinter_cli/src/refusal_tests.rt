@@ -2,9 +2,9 @@
 use crate::testing::run_steady;
 use std::alloc::{AllocError, Global};
 
-const QUERY: &str = "SELECT COUNT(*) FROM t WHERE a = ?";
+const SHAPE: &[u8] = b"table t\nrows 3\na TEXT(3)\nk ENUM(x|y)\nv UINT(8)\n";
 
-const SHAPE: &[u8] = b"table t\nrows 3\na TEXT(3)\n";
+const QUERY: &str = "SELECT COUNT(*) FROM t WHERE a = ?";
 
 /// The words are refused with this status and this line, and no word is drawn.
 fn refuses(
@@ -22,21 +22,42 @@ fn refuses(
 
 #[test]
 fn refuses_words_in_order(rt: HostRuntime) -> Result<(), AllocError> {
-    let rows: [(&[&str], u8, &str); 9] = [
+    let rows: [(&[&str], u8, &str); 10] = [
         (&[], 2, "usage"),
         (&["trace", "shape", "table", QUERY], 2, "usage"),
-        (&["trace", "shape", "table", QUERY, "AB", "AB"], 2, "usage"),
         (&["Trace", "shape", "table", QUERY, "AB"], 2, "usage"),
-        (&["trace", "none", "none", "", "long"], 11, "no file none"),
+        (&["trace", "none", "none", "", "SFOX"], 11, "no file none"),
         (
-            &["trace", "shape", "none", "", "long"],
+            &[
+                "trace",
+                "shape",
+                "none",
+                "SELECT SUM(v) FROM s WHERE a = ?",
+                "SFOX",
+            ],
+            3,
+            "query: no table",
+        ),
+        (
+            &[
+                "trace",
+                "shape",
+                "none",
+                "SELECT SUM(v) FROM t WHERE a = ?",
+                "SFOX",
+            ],
             30,
             "not built: query",
         ),
         (
-            &["trace", "shape", "none", QUERY, "long"],
-            30,
-            "not built: parameter",
+            &["trace", "shape", "none", QUERY, "AB", "AB"],
+            4,
+            "parameter: needed 1, had 2",
+        ),
+        (
+            &["trace", "shape", "none", QUERY, "SFOX"],
+            4,
+            "parameter 0: too long",
         ),
         (&["trace", "shape", "none", QUERY, "AB"], 11, "no file none"),
         (
@@ -55,17 +76,76 @@ fn refuses_words_in_order(rt: HostRuntime) -> Result<(), AllocError> {
 }
 
 #[test]
-fn refuses_what_files_hold(rt: HostRuntime) -> Result<(), AllocError> {
-    let rows: [(&[u8], &[u8], u8, &str); 8] = [
-        (b"table t\nrows 1\n", b"", 5, "shape: line 3: bad"),
-        (b"table T\nrows 3\na TEXT(3)\n", b"", 30, "not built: shape"),
-        (b"table t\nrows 3\nA TEXT(3)\n", b"", 30, "not built: shape"),
-        (SHAPE, b"", 6, "table: bad header"),
-        (SHAPE, b"a\nAB\nAB\n", 6, "table: 2 rows, not 3"),
-        (SHAPE, b"a\nAB\nAB,\nlong\n", 6, "table: row 1: length"),
+fn refuses_queries(rt: HostRuntime) -> Result<(), AllocError> {
+    let rows = [
         (
-            SHAPE,
-            b"a\nAB\nlong\nAB\n",
+            "SELECT COUNT(*) FROM flights WHERE origin = 'SFO' OR dest = ?",
+            3,
+            "query: no reading at 50",
+        ),
+        (
+            "SELECT COUNT(*) FROM t WHERE a BETWEEN ? AND ? AND a = ?",
+            3,
+            "query: no reading at 55",
+        ),
+        (
+            "SELECT COUNT(*) FROM t WHERE a = 'AB'",
+            3,
+            "query: no secret",
+        ),
+        (
+            "SELECT COUNT(*) FROM t WHERE A = ?",
+            3,
+            "query: no column A",
+        ),
+        (
+            "SELECT COUNT(*) FROM t WHERE a BETWEEN ? AND ?",
+            30,
+            "not built: query",
+        ),
+        (
+            "SELECT COUNT(*) FROM t WHERE a = ? OR a = ?",
+            30,
+            "not built: query",
+        ),
+        (
+            "SELECT COUNT(*) FROM t WHERE v = 3 AND a = ?",
+            30,
+            "not built: query",
+        ),
+        (
+            "SELECT COUNT(*) FROM t WHERE a = ? GROUP BY k",
+            30,
+            "not built: query",
+        ),
+        (
+            "SELECT COUNT(*), COUNT(*) FROM t WHERE a = ?",
+            30,
+            "not built: query",
+        ),
+    ];
+    for (query, number, text) in rows {
+        let words = ["trace", "shape", "none", query, "AB"];
+        assert!(rt;
+            refuses(rt.alloc(), &words, SHAPE, b"", number, text)?,
+            "{query}"
+        );
+    }
+    Ok(())
+}
+
+#[test]
+fn refuses_what_files_hold(rt: HostRuntime) -> Result<(), AllocError> {
+    let shape: &[u8] = b"table t\nrows 3\na TEXT(3)\n";
+    let rows: [(&[u8], &[u8], u8, &str); 7] = [
+        (b"table t\nrows 1\n", b"", 5, "shape: line 3: bad"),
+        (b"table T\nrows 3\na TEXT(3)\n", b"", 3, "query: no table"),
+        (shape, b"", 6, "table: bad header"),
+        (shape, b"a\nAB\nAB\n", 6, "table: 2 rows, not 3"),
+        (shape, b"a\nAB\nAB,\nlong\n", 6, "table: row 1: length"),
+        (
+            shape,
+            b"a\nAB\nSFOX\nAB\n",
             6,
             "table: row 1, column 0: too long",
         ),

@@ -4,6 +4,10 @@ ghost use Rattle.std.specs.String.{string_bytes};
 ghost use Rattle.spl_outside.specs.Causes.{HasCause};
 ghost use Rattle.spl_values.specs.declared.shape_reader.ShapeFault.{ShapeFault};
 ghost use Rattle.spl_values.specs.declared.shape_reader.ShapeFault.TheVariants as shape;
+ghost use Rattle.query_parser.specs.declared.fault.QueryFault.{QueryFault};
+ghost use Rattle.query_parser.specs.declared.fault.QueryFault.TheVariants as query;
+ghost use Rattle.query_reader.specs.declared.params.ParamFault.{ParamFault};
+ghost use Rattle.query_reader.specs.declared.params.ParamFault.TheVariants as param;
 ghost use Rattle.csv_tables.specs.declared.fault.TableFault.{TableFault};
 ghost use Rattle.csv_tables.specs.declared.fault.TableFault.TheVariants as table;
 ghost use Rattle.splinter_cli.specs.Commands.{order_of, judged, draws};
@@ -37,6 +41,8 @@ pub fn run<F: Files, R: Draw, O: Sink>(
     ensures untouched { order_of (map string_bytes words.now.items) ≡ None → (files.new ≡ files.old) × (draw.new ≡ draw.old) }
 
     // What the words and the files refuse, where the files are told.
+    ensures query { IfSome (F.held files.old) (λ m. (fault : QueryFault) → ComesWhereRead (judged (order_of (map string_bytes words.now.items)) m ≡ Err (refusal.Query fault)) (Status.Query fault) result) }
+    ensures param { IfSome (F.held files.old) (λ m. (fault : ParamFault) → ComesWhereRead (judged (order_of (map string_bytes words.now.items)) m ≡ Err (refusal.Param fault)) (Status.Param fault) result) }
     ensures shape { IfSome (F.held files.old) (λ m. (fault : ShapeFault) → ComesWhereRead (judged (order_of (map string_bytes words.now.items)) m ≡ Err (refusal.Shape fault)) (Status.Shape fault) result) }
     ensures table { IfSome (F.held files.old) (λ m. (fault : TableFault) → ComesWhereRead (judged (order_of (map string_bytes words.now.items)) m ≡ Err (refusal.Table fault)) (Status.Table fault) result) }
     ensures missing { IfSome (F.held files.old) (λ m. (name : List ℕ) → ComesWhereRead (judged (order_of (map string_bytes words.now.items)) m ≡ Err (refusal.MissingFile name)) (Status.MissingFile name) result) }
@@ -45,8 +51,9 @@ pub fn run<F: Files, R: Draw, O: Sink>(
     ensures undrawn { IfSome (F.held files.old) (λ m. IsErr (judged (order_of (map string_bytes words.now.items)) m) → draw.new ≡ draw.old) }
 
     // What never comes: a part that has only forms that are built, and want of memory inside a fault.
-    ensures never_table { result ≢ Status.NotBuilt part.Table }
-    ensures never_plan { result ≢ Status.NotBuilt part.Plan }
+    ensures only_query { (p : Part) → result ≡ Status.NotBuilt p → p ≡ part.Query }
+    ensures never_inside_query { result ≢ Status.Query query.OutOfMemory }
+    ensures never_inside_param { result ≢ Status.Param param.OutOfMemory }
     ensures never_inside_shape { result ≢ Status.Shape shape.OutOfMemory }
     ensures never_inside_table { result ≢ Status.Table table.OutOfMemory }
 
@@ -71,7 +78,7 @@ pub fn run<F: Files, R: Draw, O: Sink>(
         LeftAfter (draws (judged (order_of (map string_bytes words.now.items)) m)) ws (R.words draw.new))) }
 {
     match dispatch(alloc, words, files, draw) {
-        Ok(text) => print(alloc, out, text.as_bytes(), Status::Done),
+        Ok(text) => print(alloc, out, &text, Status::Done),
         Err(stopped) => refuse(alloc, out, stopped),
     }
 }

@@ -1,9 +1,7 @@
 //! What the two providers answer, and what their words add up to.
-ghost use Rattle.std.specs.Prelude.{◌≡◌, ◌%◌, ◌<◌, ◌^◌, All, IfOk, sum_by};
+ghost use Rattle.std.specs.Prelude.{◌≡◌, ◌%◌, ◌<◌, ◌≤◌, ◌^◌, ◌==◌, All, IfOk, sum_by, count_by};
 ghost use Rattle.spl_words.specs.declared.provider.Provider.TheVariants.{Zero, One};
-ghost use Rattle.splinter_cli.specs.Commands.{IsCounting};
-ghost use Rattle.splinter_cli.specs.Orders.{counting_of};
-ghost use Rattle.splinter_cli.specs.Shares.{share_sum, count_of, secret_of};
+ghost use Rattle.splinter_cli.specs.Shares.{share_sum, secret_of};
 
 use point_keys::{PointEval, laws, make_point};
 use seed_expansion::ChaChaExpander;
@@ -14,17 +12,6 @@ use std::alloc::{AllocError, Global};
 /// The number of the one tree.
 const TREE: u32 = 0;
 
-/// A column's codes, and the code that is looked for among them.
-#[derive(Debug, Drop)]
-pub struct Counted {
-    /// The bits of a code, 1 to 128.
-    pub bits: u32,
-    /// The code that is looked for.
-    pub code: u128,
-    /// The column's codes, row by row.
-    pub column: Vec<u128>,
-}
-
 /// The words of both providers, and their sum, which is the count.
 #[derive(Clone, Copy, Debug)]
 pub struct Answer {
@@ -33,33 +20,41 @@ pub struct Answer {
     pub count: u64,
 }
 
-/// The sum of the shares at the codes, modulo 2^64.
-fn sum_of_shares<S: ShareFn>(shares: &S, codes: &[u128]) -> u64
-    requires { All (λ code. code < 2 ^ S.bits shares.now) codes.now }
-    ensures { result ≡ sum_by (S.word shares.now) codes.now % 2 ^ 64 }
+/// The sum of the shares at the keys, modulo 2^64.
+fn sum_of_shares<S: ShareFn>(shares: &S, keys: &[u128]) -> u64
+    requires { All (λ key. key < 2 ^ S.bits shares.now) keys.now }
+    ensures { result ≡ sum_by (S.word shares.now) keys.now % 2 ^ 64 }
 {
     let mut sum = 0;
-    for code in codes {
-        sum = plus(sum, shares.share(*code));
+    for key in keys {
+        sum = plus(sum, shares.share(*key));
     }
     sum
 }
 
-/// The answers of both providers under the two keys of the code, and what they add up to: how many of
-/// the column's codes are that one.
-pub fn add_up(alloc: Global, counted: &Counted, roots: (u128, u128)) -> Result<Answer, AllocError>
-    requires { IsCounting (counting_of counted.now) }
-    ensures zero { IfOk result (λ a. a.zero ≡ share_sum Zero (secret_of counted.now.bits counted.now.code) roots counted.now.column.items) }
-    ensures one { IfOk result (λ a. a.one ≡ share_sum One (secret_of counted.now.bits counted.now.code) roots counted.now.column.items) }
-    ensures count { IfOk result (λ a. a.count ≡ count_of counted.now.code counted.now.column.items) }
+/// The answers of both providers under the two keys of a number, and what they add up to: how many of the rows'
+/// keys are that number.
+pub fn add_up(
+    alloc: Global,
+    bits: u32,
+    key: u128,
+    row_keys: &[u128],
+    roots: (u128, u128),
+) -> Result<Answer, AllocError>
+    requires some { 1 ≤ bits }
+    requires few { bits ≤ 128 }
+    requires key { key < 2 ^ bits }
+    requires keys { All (λ k. k < 2 ^ bits) row_keys.now }
+    ensures zero { IfOk result (λ a. a.zero ≡ share_sum Zero (secret_of bits key) roots row_keys.now) }
+    ensures one { IfOk result (λ a. a.one ≡ share_sum One (secret_of bits key) roots row_keys.now) }
+    ensures count { IfOk result (λ a. a.count ≡ count_by (λ k. k == key) row_keys.now) }
 {
-    let codes = counted.column.as_slice();
     let expander = ChaChaExpander;
-    let keys = make_point(alloc, &expander, TREE, counted.bits, counted.code, 1, roots)?;
+    let keys = make_point(alloc, &expander, TREE, bits, key, 1, roots)?;
     let shares_zero = PointEval::new(&expander, Provider::Zero, TREE, &keys.0);
-    let zero = sum_of_shares(&shares_zero, codes);
+    let zero = sum_of_shares(&shares_zero, row_keys);
     let shares_one = PointEval::new(&expander, Provider::One, TREE, &keys.1);
-    let one = sum_of_shares(&shares_one, codes);
+    let one = sum_of_shares(&shares_one, row_keys);
     chacha_is_pure();
     laws::point_shares_add();
     let count = plus(zero, one);

@@ -11,6 +11,8 @@ use Rattle.splinter_status.specs.declared.stops.InputStop.TheVariants as input
 -- the status of a refusal
 abbrev pub status_of : Refusal → Status
 status_of refusal.Usage = status.Usage
+status_of (refusal.Query fault) = status.Query fault
+status_of (refusal.Param fault) = status.Param fault
 status_of (refusal.Shape fault) = status.Shape fault
 status_of (refusal.Table fault) = status.Table fault
 status_of (refusal.MissingFile name) = status.MissingFile name

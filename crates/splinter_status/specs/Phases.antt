@@ -2,6 +2,8 @@
 use Rattle.std.specs.Prelude.{◌≡◌, ℕ, List, Result, Ok, Err}
 use Rattle.std.specs.Global.{Vec}
 use Rattle.spl_values.specs.declared.shape_reader.ShapeFault.TheVariants as shape
+use Rattle.query_parser.specs.declared.fault.QueryFault.TheVariants as query
+use Rattle.query_reader.specs.declared.params.ParamFault.TheVariants as param
 use Rattle.csv_tables.specs.declared.fault.TableFault.TheVariants as table
 use Rattle.splinter_status.specs.declared.stops.InputStop.{InputStop}
 use Rattle.splinter_status.specs.declared.stops.InputStop.TheVariants as input
@@ -35,12 +37,16 @@ Gives view (Err (input.Refused r)) step = step ≡ Err r
 Gives view (Err input.FileFault) step = Unit {0}
 Gives view (Err input.OutOfMemory) step = Unit {0}
 
--- a refusal of what files hold: the words form a command, no fault in it is want of memory, and each table and each plan has a form that is built
+-- a refusal of what files hold: the words form a command, no fault in it is want of memory, and of all parts only a query can have a form that isn't built
 abbrev pub IsOfFiles : Refusal → Type 0
 IsOfFiles refusal.Usage = ⊥
+IsOfFiles (refusal.Query query.OutOfMemory) = ⊥
+IsOfFiles (refusal.Param param.OutOfMemory) = ⊥
 IsOfFiles (refusal.Shape shape.OutOfMemory) = ⊥
 IsOfFiles (refusal.Table table.OutOfMemory) = ⊥
 IsOfFiles (refusal.NotBuilt part.Table) = ⊥
+IsOfFiles (refusal.NotBuilt part.Shape) = ⊥
+IsOfFiles (refusal.NotBuilt part.Parameter) = ⊥
 IsOfFiles (refusal.NotBuilt part.Plan) = ⊥
 IsOfFiles _ = Unit {0}
 

@@ -5,6 +5,10 @@ use Rattle.spl_values.specs.declared.shape_reader.ShapeFault.{ShapeFault}
 use Rattle.spl_values.specs.declared.shape_reader.ShapeFault.TheVariants as shape
 use Rattle.spl_values.specs.declared.values.ValueFault.{ValueFault}
 use Rattle.spl_values.specs.declared.values.ValueFault.TheVariants as value
+use Rattle.query_parser.specs.declared.fault.QueryFault.{QueryFault}
+use Rattle.query_parser.specs.declared.fault.QueryFault.TheVariants as query
+use Rattle.query_reader.specs.declared.params.ParamFault.{ParamFault}
+use Rattle.query_reader.specs.declared.params.ParamFault.TheVariants as param
 use Rattle.csv_tables.specs.declared.fault.TableFault.{TableFault}
 use Rattle.csv_tables.specs.declared.fault.TableFault.TheVariants as table
 use Rattle.splinter_status.specs.declared.status.Status.{Status}
@@ -19,6 +23,21 @@ part_text part.Shape = codes "shape"
 part_text part.Query = codes "query"
 part_text part.Parameter = codes "parameter"
 part_text part.Plan = codes "plan"
+
+-- why a query isn't read or accepted
+abbrev pub query_fault_text : QueryFault → List ℕ
+query_fault_text (query.NoReading at) = codes "no reading at " ++ decimal at
+query_fault_text query.NoTable = codes "no table"
+query_fault_text (query.NoColumn name) = codes "no column " ++ name
+query_fault_text (query.WrongType name) = codes "wrong type of " ++ name
+query_fault_text query.NoSecret = codes "no secret"
+query_fault_text (query.BranchesDiffer branch) = codes "branch " ++ (decimal branch ++ codes " differs")
+query_fault_text (query.TooWide bits) = decimal bits ++ codes " key bits"
+query_fault_text (query.TooManyBranches branches) = decimal branches ++ codes " branches"
+query_fault_text query.BadTopk = codes "bad TOPK"
+query_fault_text (query.CellsTooWide words) = decimal words ++ codes " cell words"
+query_fault_text (query.TooLong bytes) = decimal bytes ++ codes " bytes"
+query_fault_text query.OutOfMemory = []
 
 -- why a text describes no shape
 abbrev pub shape_fault_text : ShapeFault → List ℕ
@@ -36,6 +55,13 @@ value_fault_text (value.TooLong n) = codes "too long"
 value_fault_text (value.BadByte i) = codes "bad byte"
 value_fault_text value.NoSuchLabel = codes "no such label"
 
+-- why parameters are refused: their number, or the first that doesn't fit
+abbrev pub param_fault_text : ParamFault → List ℕ
+param_fault_text (param.Count needed had) = codes ": needed " ++ (decimal needed ++ (codes ", had " ++ decimal had))
+param_fault_text (param.Value number fault) = codes " " ++ (decimal number ++ (codes ": " ++ value_fault_text fault))
+param_fault_text (param.BadCode number) = codes " " ++ (decimal number ++ codes ": bad code")
+param_fault_text param.OutOfMemory = []
+
 -- why a text has no table of a shape
 abbrev pub table_fault_text : TableFault → List ℕ
 table_fault_text table.BadHeader = codes "bad header"
@@ -48,6 +74,8 @@ table_fault_text table.OutOfMemory = []
 abbrev pub status_text : Status → List ℕ
 status_text status.Done = []
 status_text status.Usage = codes "usage"
+status_text (status.Query fault) = codes "query: " ++ query_fault_text fault
+status_text (status.Param fault) = codes "parameter" ++ param_fault_text fault
 status_text (status.Shape fault) = codes "shape: " ++ shape_fault_text fault
 status_text (status.Table fault) = codes "table: " ++ table_fault_text fault
 status_text (status.MissingFile name) = codes "no file " ++ name
@@ -76,6 +104,8 @@ HasLine s = Unit {0}
 abbrev pub status_number : Status → ℕ
 status_number status.Done = 0
 status_number status.Usage = 2
+status_number (status.Query fault) = 3
+status_number (status.Param fault) = 4
 status_number (status.Shape fault) = 5
 status_number (status.Table fault) = 6
 status_number (status.MissingFile name) = 11

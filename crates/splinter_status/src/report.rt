@@ -28,6 +28,8 @@ fn status_of(refusal: Refusal) -> Status
 {
     match refusal {
         Refusal::Usage => Status::Usage,
+        Refusal::Query(fault) => Status::Query(fault),
+        Refusal::Param(fault) => Status::Param(fault),
         Refusal::Shape(fault) => Status::Shape(fault),
         Refusal::Table(fault) => Status::Table(fault),
         Refusal::MissingFile(name) => Status::MissingFile(name),

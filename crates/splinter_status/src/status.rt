@@ -1,5 +1,6 @@
 //! How a command ends.
 use csv_tables::TableFault;
+use query_reader::{ParamFault, QueryFault};
 use spl_values::{Name, ShapeFault};
 
 /// A part of the tool.
@@ -19,6 +20,10 @@ pub enum Status {
     Done,
     /// The words form no command.
     Usage,
+    /// The query isn't read, or isn't accepted for the schema.
+    Query(QueryFault),
+    /// The number of parameters is wrong, or one is no value of its column.
+    Param(ParamFault),
     /// The shape's file describes no shape.
     Shape(ShapeFault),
     /// The table's file has no table of the shape.

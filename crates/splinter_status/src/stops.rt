@@ -2,6 +2,7 @@
 //! taken for what comes early.
 use crate::status::Part;
 use csv_tables::TableFault;
+use query_reader::{ParamFault, QueryFault};
 use spl_values::{Name, ShapeFault};
 
 /// Why a file was not read.
@@ -17,6 +18,8 @@ pub enum ReadStop {
 #[derive(Debug, Drop)]
 pub enum Refusal {
     Usage,
+    Query(QueryFault),
+    Param(ParamFault),
     Shape(ShapeFault),
     Table(TableFault),
     MissingFile(Name),

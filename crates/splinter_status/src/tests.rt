@@ -1,6 +1,7 @@
 //! The line and the number of each status, and what is printed of them.
 use crate::{InputStop, Part, Refusal, Status, Stopped, line, number_of, print, refuse};
 use csv_tables::TableFault;
+use query_reader::{ParamFault, QueryFault};
 use spl_outside::{MemorySink, SteadySink};
 use spl_values::{Name, ShapeFault, ValueFault};
 use std::alloc::{AllocError, Global};
@@ -10,6 +11,46 @@ fn says(alloc: Global, status: &Status, number: u8, text: &str) -> Result<bool, 
     let line = line(alloc, status)?;
     let wanted = format!(in alloc; "splinter: {text}\n")?;
     Ok(number_of(status) == number && line.as_str() == wanted.as_str())
+}
+
+fn name_of(alloc: Global, text: &str) -> Result<Name, AllocError> {
+    Ok(Name::from_string(String::from_str(alloc, text)?))
+}
+
+#[test]
+fn says_the_faults_of_queries(rt: HostRuntime) -> Result<(), AllocError> {
+    let alloc = rt.alloc();
+    for (fault, text) in [
+        (QueryFault::NoReading(55), "query: no reading at 55"),
+        (QueryFault::NoTable, "query: no table"),
+        (QueryFault::NoColumn(name_of(alloc, "b")?), "query: no column b"),
+        (QueryFault::WrongType(name_of(alloc, "b")?), "query: wrong type of b"),
+        (QueryFault::NoSecret, "query: no secret"),
+        (QueryFault::BranchesDiffer(1), "query: branch 1 differs"),
+        (QueryFault::TooWide(136), "query: 136 key bits"),
+        (QueryFault::TooManyBranches(9), "query: 9 branches"),
+        (QueryFault::BadTopk, "query: bad TOPK"),
+        (QueryFault::CellsTooWide(129), "query: 129 cell words"),
+        (QueryFault::TooLong(4097), "query: 4097 bytes"),
+    ] {
+        assert!(rt; says(alloc, &Status::Query(fault), 3, text)?, "{text}");
+    }
+    Ok(())
+}
+
+#[test]
+fn says_the_faults_of_parameters(rt: HostRuntime) -> Result<(), AllocError> {
+    for (fault, text) in [
+        (ParamFault::Count(1, 2), "parameter: needed 1, had 2"),
+        (
+            ParamFault::Value(0, ValueFault::TooLong(4)),
+            "parameter 0: too long",
+        ),
+        (ParamFault::BadCode(3), "parameter 3: bad code"),
+    ] {
+        assert!(rt; says(rt.alloc(), &Status::Param(fault), 4, text)?, "{text}");
+    }
+    Ok(())
 }
 
 #[test]
@@ -83,9 +124,9 @@ fn says_the_other_statuses(rt: HostRuntime) -> Result<(), AllocError> {
     assert!(rt; says(alloc, &Status::Usage, 2, "usage")?);
     assert!(rt; says(alloc, &Status::FileFault, 12, "file fault")?);
     assert!(rt; says(alloc, &Status::DrawFault, 14, "draw fault")?);
-    let name = Name::from_string(String::from_str(alloc, "t.csv")?);
+    let name = name_of(alloc, "t.csv")?;
     assert!(rt; says(alloc, &Status::MissingFile(name), 11, "no file t.csv")?);
-    let name = Name::from_string(String::from_str(alloc, "t.csv")?);
+    let name = name_of(alloc, "t.csv")?;
     assert!(rt; says(alloc, &Status::FileTooLong(name), 21, "file too long t.csv")?);
     for (status, number) in [
         (Status::Done, 0),

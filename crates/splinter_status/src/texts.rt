@@ -1,10 +1,11 @@
 //! The lines and the numbers of statuses.
 ghost use Rattle.std.specs.Prelude.{◌≡◌, IfOk};
 ghost use Rattle.std.specs.String.{string_bytes};
-ghost use Rattle.splinter_status.specs.Texts.{line_of, part_text, shape_fault_text, value_fault_text, table_fault_text, status_number};
+ghost use Rattle.splinter_status.specs.Texts.{line_of, part_text, query_fault_text, param_fault_text, shape_fault_text, value_fault_text, table_fault_text, status_number};
 
 use crate::status::{Part, Status};
 use csv_tables::TableFault;
+use query_reader::{ParamFault, QueryFault};
 use spl_values::{ShapeFault, ValueFault};
 use std::alloc::{AllocError, Global};
 
@@ -17,6 +18,47 @@ fn part_name(part: Part) -> &'static str
         Part::Query => "query",
         Part::Parameter => "parameter",
         Part::Plan => "plan",
+    }
+}
+
+/// Why a query isn't read or accepted.
+fn query_fault(alloc: Global, fault: &QueryFault) -> Result<String, AllocError>
+    ensures { IfOk result (λ t. string_bytes t ≡ query_fault_text fault.now) }
+{
+    match fault {
+        QueryFault::NoReading(at) => format!(in alloc; "no reading at {at}"),
+        QueryFault::NoTable => format!(in alloc; "no table"),
+        QueryFault::NoColumn(name) => {
+            let name = name.as_str();
+            format!(in alloc; "no column {name}")
+        }
+        QueryFault::WrongType(name) => {
+            let name = name.as_str();
+            format!(in alloc; "wrong type of {name}")
+        }
+        QueryFault::NoSecret => format!(in alloc; "no secret"),
+        QueryFault::BranchesDiffer(branch) => format!(in alloc; "branch {branch} differs"),
+        QueryFault::TooWide(bits) => format!(in alloc; "{bits} key bits"),
+        QueryFault::TooManyBranches(branches) => format!(in alloc; "{branches} branches"),
+        QueryFault::BadTopk => format!(in alloc; "bad TOPK"),
+        QueryFault::CellsTooWide(words) => format!(in alloc; "{words} cell words"),
+        QueryFault::TooLong(bytes) => format!(in alloc; "{bytes} bytes"),
+        QueryFault::OutOfMemory => Ok(String::new(alloc)),
+    }
+}
+
+/// Why parameters are refused.
+fn param_fault(alloc: Global, fault: &ParamFault) -> Result<String, AllocError>
+    ensures { IfOk result (λ t. string_bytes t ≡ param_fault_text fault.now) }
+{
+    match fault {
+        ParamFault::Count(needed, had) => format!(in alloc; ": needed {needed}, had {had}"),
+        ParamFault::Value(number, fault) => {
+            let what = value_fault(*fault);
+            format!(in alloc; " {number}: {what}")
+        }
+        ParamFault::BadCode(number) => format!(in alloc; " {number}: bad code"),
+        ParamFault::OutOfMemory => Ok(String::new(alloc)),
     }
 }
 
@@ -69,6 +111,16 @@ pub fn line(alloc: Global, status: &Status) -> Result<String, AllocError>
     match status {
         Status::Done | Status::OutputFault | Status::OutOfMemory => Ok(String::new(alloc)),
         Status::Usage => format!(in alloc; "splinter: usage\n"),
+        Status::Query(fault) => {
+            let what = query_fault(alloc, fault)?;
+            let what = what.as_str();
+            format!(in alloc; "splinter: query: {what}\n")
+        }
+        Status::Param(fault) => {
+            let what = param_fault(alloc, fault)?;
+            let what = what.as_str();
+            format!(in alloc; "splinter: parameter{what}\n")
+        }
         Status::Shape(fault) => {
             let what = shape_fault(alloc, *fault)?;
             let what = what.as_str();
@@ -103,6 +155,8 @@ pub fn number_of(status: &Status) -> u8
     match status {
         Status::Done => 0,
         Status::Usage => 2,
+        Status::Query(_) => 3,
+        Status::Param(_) => 4,
         Status::Shape(_) => 5,
         Status::Table(_) => 6,
         Status::MissingFile(_) => 11,
