@@ -1,0 +1,1 @@
+//! The intervals of joined keys that branches allow.

@@ -1,0 +1,12 @@
+//! What a query asks of the two providers: which trees in which round, and their secrets.
+#![tactic(auto)]
+
+mod branches;
+pub mod laws;
+mod layout;
+mod lengths;
+mod plans;
+
+pub use layout::plan;
+pub use lengths::frame_length;
+pub use plans::{KeySpec, Plan, PlanKind, Specs};
