@@ -1,3 +1,4 @@
+pub mod Backwards
 pub mod Counts
 pub mod Loops
 pub mod Spans

@@ -2,6 +2,8 @@
 use Rattle.std.proofs.Common.{◌≡◌, ℕ, zero, suc, ◌+◌, ◌*◌, ◌^◌, ◌<◌, ◌≤◌, Bool, true, false, ◌&&◌, ◌||◌, nat_lt, nat_le, eqb, List, [], ◌∷◌, ◌++◌, length, map, take, drop, Option, Some, None, option_map, refl, sym, ap, subst, ◌∙◌, arith, IfSome, if◌then◌else◌}
 use Rattle.std.specs.List.{AllByRecursion, AllZip}
 use Rattle.std.proofs.lemmas.Bool.Decides.{nat_tests}
+use Rattle.std.proofs.lemmas.Slice.Zip.{AllZip-long}
+use Rattle.std.proofs.lemmas.List.{length-append}
 use Rattle.std.proofs.lemmas.Nat.{pow_pos, pow-add, mul-add-lt}
 use Rattle.std.proofs.Math.Nat.{add-mul, mul_comm, mul-le-mul_right}
 use Rattle.spl_values.specs.Shapes.{ColumnParts}
@@ -116,6 +118,10 @@ length-columns (c ∷ d ∷ cs) range some =
     let e : branch_params (c ∷ d ∷ cs) range ≡ suc (branch_params (d ∷ cs) range) = omega arith in
     ap suc (length-columns (d ∷ cs) range (omega arith)) ∙ sym e
 
+columns_most : (places : List ℕ) (range : Bool) → length places ≤ branch_params places range
+columns_most places true = omega arith
+columns_most places false = omega arith
+
 zip_front : (R : ℕ → ℕ → Type 0) (xs ys ps : List ℕ) → AllZip R (xs ++ ys) ps → AllZip R xs (take (length xs) ps)
 zip_front R [] ys ps z = tt
 zip_front R (x ∷ xs) ys [] z = absurd z
@@ -132,11 +138,21 @@ allowed_step None l x = refl
 allowed_step (Some s) l x = refl
 
 module _ (columns : List ColumnParts) (places : List ℕ) (range : Bool) (some : 1 ≤ length places) where
-  front : (n : ℕ) (params : List ℕ) → AllZip (HasBits columns) (times (suc n) (branch_columns places range)) params → AllZip (HasBits columns) (branch_columns places range) (take (branch_params places range) params)
+  pub front : (n : ℕ) (params : List ℕ) → AllZip (HasBits columns) (times (suc n) (branch_columns places range)) params → AllZip (HasBits columns) (branch_columns places range) (take (branch_params places range) params)
   front n params z = rw (← length-columns places range some) (zip_front (HasBits columns) (branch_columns places range) (times n (branch_columns places range)) params z)
 
-  back : (n : ℕ) (params : List ℕ) → AllZip (HasBits columns) (times (suc n) (branch_columns places range)) params → AllZip (HasBits columns) (times n (branch_columns places range)) (drop (branch_params places range) params)
+  pub back : (n : ℕ) (params : List ℕ) → AllZip (HasBits columns) (times (suc n) (branch_columns places range)) params → AllZip (HasBits columns) (times n (branch_columns places range)) (drop (branch_params places range) params)
   back n params z = rw (← length-columns places range some) (zip_back (HasBits columns) (branch_columns places range) (times n (branch_columns places range)) params z)
+
+  -- the parameters of n branches are enough for the first
+  pub own_params : (n : ℕ) (params : List ℕ) → AllZip (HasBits columns) (times (suc n) (branch_columns places range)) params → (branch_params places range ≤ length params) × (length places ≤ length (take (branch_params places range) params))
+  own_params n params z =
+      let all = AllZip-long (HasBits columns) (branch_columns places range ++ times n (branch_columns places range)) params z in
+      let both : length (branch_columns places range ++ times n (branch_columns places range)) ≡ length (branch_columns places range) + length (times n (branch_columns places range)) = length-append (branch_columns places range) (times n (branch_columns places range)) in
+      let own = AllZip-long (HasBits columns) (branch_columns places range) (take (branch_params places range) params) (front n params z) in
+      let each = length-columns places range some in
+      let most = columns_most places range in
+      (omega (arith, all, both, each), omega (arith, own, each, most))
 
   -- the intervals of branches hold a row's joined key exactly where some branch holds of the row
   pub held_where : (n : ℕ) (params : List ℕ) (r : Row) → RowHasBits columns places r → AllZip (HasBits columns) (times n (branch_columns places range)) params

@@ -1,17 +1,17 @@
 //! The plan of a query.
-ghost use Rattle.std.specs.Prelude.{◌≡◌, ◌≤◌, ◌<◌, ◌*◌, ◌++◌, ◌^◌, length, replicate, All, IfOk};
+ghost use Rattle.std.specs.Prelude.{◌≡◌, ◌≤◌, ◌<◌, ◌*◌, ◌++◌, ◌^◌, length, replicate, IfOk};
 ghost use Rattle.std.specs.List.{list_all, flat_map, range_with_len};
-ghost use Rattle.spl_values.specs.Tables.{column_bits as bits_of_column};
 ghost use Rattle.cell_merge.specs.Cells.{cell_width};
 ghost use Rattle.query_reader.specs.Accepted.{IsCheckedFor};
 ghost use Rattle.private_plan.specs.declared.plans.PlanKind.TheVariants as kind;
 ghost use Rattle.private_plan.specs.Plans.{is_sum as sum_test, last_bits as bits_of_last, kind_for, tree as tree_of, level_trees, slot_trees, second_trees, for_each_slot, position_bits as bits_of_positions, words_back as words_for, rounds_of, kind_of, plan_of};
 
+use crate::columns::last_bits;
 use crate::plans::{KeySpec, Plan, PlanKind, Specs};
 use cell_merge::{CellItem, width};
 use query_reader::Checked;
 use query_reader::laws::{accepted_has_cells, accepted_has_keys};
-use spl_values::{Schema, Shape, bits};
+use spl_values::Shape;
 use spl_words::TreeKind;
 use std::alloc::{AllocError, Global};
 
@@ -186,19 +186,6 @@ fn rounds(kind: PlanKind) -> u32
     match kind {
         PlanKind::Position => 2,
         PlanKind::Sum | PlanKind::Point | PlanKind::Aligned => 1,
-    }
-}
-
-/// The bits of the last of some columns.
-fn last_bits(schema: &Schema, places: &[u32]) -> u32
-    requires some { 1 ≤ length places.now }
-    requires columns { All (λ place. place < length schema.now.columns) places.now }
-    ensures { result ≡ bits_of_last schema.now.columns places.now }
-{
-    let place = places[places.len() - 1];
-    match schema.columns.as_slice().get(place as usize) {
-        Some(column) => bits(&column.kind),
-        None => 0,
     }
 }
 

@@ -2,11 +2,13 @@
 #![tactic(auto)]
 
 mod branches;
+mod columns;
 pub mod laws;
 mod layout;
 mod lengths;
 mod plans;
 
+pub use branches::slots;
 pub use layout::plan;
 pub use lengths::frame_length;
 pub use plans::{KeySpec, Plan, PlanKind, Specs};
