@@ -113,8 +113,11 @@ fn branch_spans(
 pub fn slots(checked: &Checked, schema: &Schema, params: &Params) -> ArrayVec<Option<Interval>, 8>
     requires accepted { IsCheckedFor checked.now schema.now }
     requires params { AreParamsFor checked.now schema.now params.now }
-    ensures { result.items ≡ slots_of checked.now schema.now.columns params.now }
+    ensures slots { result.items ≡ slots_of checked.now schema.now.columns params.now }
+    // Each slot holds a number, and its numbers have no more than the bits of the joined key.
+    ensures fits { All (λ slot. IfSome slot (λ s. (s.lo ≤ s.hi) × (s.hi < 2 ^ checked.now.bits))) result.items }
 {
+    checked.query.facts();
     let spans = branch_spans(checked, schema, params.as_slice());
     normalise_intervals(spans.as_slice())
 }

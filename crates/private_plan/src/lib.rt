@@ -7,8 +7,10 @@ pub mod laws;
 mod layout;
 mod lengths;
 mod plans;
+mod secrets;
 
 pub use branches::slots;
 pub use layout::plan;
 pub use lengths::frame_length;
 pub use plans::{KeySpec, Plan, PlanKind, Specs};
+pub use secrets::{SecretFault, Secrets, round_secrets};

@@ -69,8 +69,7 @@ loop-preserved c =
     let each : c.params_of_branch-each.result ≡ branch_params checked.columns checked.range = c.params_of_branch-each.ensures ∙ ap (λ l. branch_params l checked.range) c.as_slice-places.ensures in
     let own = c.branch_span.ensures ∙ (ap (λ l. branch_span columns l checked.range c.split_at.result.0.now) c.as_slice-places.ensures ∙ ap (branch_span columns checked.columns checked.range) (c.split_at.ensures.front ∙ ap (λ k. take k c.loop.rest.now) each)) in
     let more = c.split_at.ensures.back ∙ ap (λ k. drop k c.loop.rest.now) each in
-    let invariant = subst (λ k. c.loop.spans.items ++ branch_spans columns k checked.columns checked.range c.loop.rest.now ≡ branch_spans columns checked.branches checked.columns checked.range c.args.params.now) left c.loop.invariant.0 in
-    (
+    let invariant = subst (λ k. c.loop.spans.items ++ branch_spans columns k checked.columns checked.range c.loop.rest.now ≡ branch_spans columns checked.branches checked.columns checked.range c.args.params.now) left c.loop.invariant.0 in (
       rw (c.push.ensures.items, own, more, append_assoc) (invariant),
       rw more (back columns checked.columns checked.range some m c.loop.rest.now zip),
       c.push.ensures.len ∙ ap (λ n. n + 1) c.loop.invariant.2,
