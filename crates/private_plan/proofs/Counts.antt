@@ -1,11 +1,11 @@
 -- How many trees a round has, and how wide the last column is.
-use Rattle.std.proofs.Common.{◌≡◌, ℕ, zero, suc, ◌+◌, ◌-◌, ◌*◌, ◌<◌, ◌≤◌, ◌^◌, Bool, true, false, List, [], ◌∷◌, ◌++◌, length, nat_le, Option, Some, None, if◌then◌else◌, unwrap_or, refl, sym, ap, ◌∙◌, arith}
+use Rattle.std.proofs.Common.{◌≡◌, ℕ, zero, suc, ◌+◌, ◌-◌, ◌*◌, ◌≤◌, ◌^◌, Bool, true, false, List, [], ◌∷◌, ◌++◌, length, nat_le, Option, Some, if◌then◌else◌, unwrap_or, refl, sym, ap, ◌∙◌, arith}
 use Rattle.std.specs.Prelude.{replicate, slice_index}
 use Rattle.std.specs.List.{flat_map, range_with_len, find}
 use Rattle.std.proofs.lemmas.List.{length-append}
 use Rattle.std.proofs.Math.Nat.{add-mul, zero-mul, mul-le-mul_right}
 use Rattle.spl_values.specs.Shapes.{ColumnParts}
-use Rattle.spl_values.specs.Tables.{column_bits, key_bits}
+use Rattle.spl_values.specs.Tables.{key_bits}
 use Rattle.private_plan.specs.declared.plans.KeySpec.{KeySpec}
 use Rattle.private_plan.specs.Plans.{last_bits, level_trees, for_each_slot, tree, slot_trees, second_trees, position_bits}
 use Rattle.private_plan.specs.declared.plans.PlanKind.{PlanKind}

@@ -1,10 +1,10 @@
 -- What the slots of a query keep, and what the functions of their secrets add to.
-use Rattle.std.proofs.Common.{◌≡◌, ℕ, zero, suc, ◌+◌, ◌*◌, ◌%◌, ◌^◌, ◌<◌, ◌≤◌, Bool, true, false, cond, ◌&&◌, nat_le, nat_eq, List, [], ◌∷◌, ◌++◌, length, get_or, take, drop, Option, Some, None, option_map, refl, sym, ap, subst, ◌∙◌, arith, IfSome, if◌then◌else◌}
+use Rattle.std.proofs.Common.{◌≡◌, ℕ, zero, suc, ◌+◌, ◌*◌, ◌%◌, ◌^◌, ◌<◌, ◌≤◌, Bool, true, false, cond, nat_le, nat_eq, List, [], ◌∷◌, length, get_or, take, drop, Option, Some, None, option_map, refl, sym, ap, subst, ◌∙◌, arith, IfSome, if◌then◌else◌}
 use Rattle.std.specs.Prelude.{All, sum_by}
 use Rattle.std.specs.List.{AllByRecursion, AllZip, flat_map}
 use Rattle.std.proofs.lemmas.Bool.Decides.{nat_tests}
 use Rattle.spl_words.specs.Words.{plus}
-use Rattle.spl_words.specs.Secrets.{Secret, secret_value}
+use Rattle.spl_words.specs.Secrets.{secret_value}
 use Rattle.spl_values.specs.Shapes.{ColumnParts}
 use Rattle.spl_values.specs.Tables.{key_bits}
 use Rattle.interval_keys.specs.Intervals.{Span, interval_secrets, slot_value}
@@ -20,7 +20,7 @@ use Rattle.query_reader.specs.Matching.{branch_params, some_branch_holds}
 use Rattle.query_reader.specs.Params.{HasBits, branch_columns, times}
 use Rattle.cell_merge.specs.Rows.{Row}
 use Rattle.private_plan.proofs.Spans.{held_where, spans_fit}
-use Rattle.private_plan.specs.Branches.{RowHasBits, row_key, raised, span_between, branch_span, branch_spans}
+use Rattle.private_plan.specs.Branches.{RowHasBits, row_key, raised, branch_span, branch_spans}
 use Rattle.private_plan.specs.Slots.{point_secret, slot_secrets, secrets_value}
 
 pair : (P Q : Span → Type 0) (s : Option Span) → IfSome s P → IfSome s Q → IfSome s (λ t. P t × Q t)

@@ -1,5 +1,5 @@
 -- The interval of a branch holds a row's joined key exactly where the branch holds of the row.
-use Rattle.std.proofs.Common.{◌≡◌, ℕ, zero, suc, ◌+◌, ◌*◌, ◌^◌, ◌<◌, ◌≤◌, Bool, true, false, ◌&&◌, ◌||◌, nat_lt, nat_le, eqb, List, [], ◌∷◌, ◌++◌, length, map, take, drop, Option, Some, None, option_map, refl, sym, ap, subst, ◌∙◌, arith, IfSome, if◌then◌else◌}
+use Rattle.std.proofs.Common.{◌≡◌, ℕ, zero, suc, ◌+◌, ◌*◌, ◌^◌, ◌<◌, ◌≤◌, Bool, true, false, ◌&&◌, ◌||◌, nat_le, eqb, List, [], ◌∷◌, ◌++◌, length, map, take, drop, Option, Some, None, option_map, refl, sym, ap, ◌∙◌, arith, IfSome, if◌then◌else◌}
 use Rattle.std.specs.List.{AllByRecursion, AllZip}
 use Rattle.std.proofs.lemmas.Bool.Decides.{nat_tests}
 use Rattle.std.proofs.lemmas.Slice.Zip.{AllZip-long}
@@ -13,7 +13,7 @@ use Rattle.interval_keys.specs.Slots.{allowed, held}
 use Rattle.cell_merge.specs.Rows.{Row, code}
 use Rattle.query_reader.specs.Matching.{branch_holds, branch_params, is_between, some_branch_holds}
 use Rattle.query_reader.specs.Params.{HasBits, branch_columns, times}
-use Rattle.private_plan.specs.Branches.{RowHasBits, joined, row_key, span_between, raised, branch_span, branch_spans, span_holds}
+use Rattle.private_plan.specs.Branches.{RowHasBits, joined, row_key, raised, branch_span, branch_spans, span_holds}
 
 -- codes that their columns have room for make a number that the key has room for
 pub joined_below : (columns : List ColumnParts) (places codes : List ℕ) → AllZip (HasBits columns) places codes → joined columns places codes < 2 ^ key_bits columns places

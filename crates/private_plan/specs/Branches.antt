@@ -1,5 +1,5 @@
 -- The intervals of joined keys that the branches of a query allow.
-use Rattle.std.specs.Prelude.{◌≡◌, ℕ, zero, suc, ◌+◌, ◌*◌, ◌^◌, ◌<◌, Bool, true, false, nat_le, ◌&&◌, List, [], ◌∷◌, take, drop, map, Option, None, Some, option_map, if◌then◌else◌}
+use Rattle.std.specs.Prelude.{ℕ, zero, suc, ◌+◌, ◌*◌, ◌^◌, Bool, true, false, nat_le, List, [], ◌∷◌, take, drop, map, Option, None, Some, option_map, if◌then◌else◌}
 use Rattle.spl_values.specs.Shapes.{ColumnParts}
 use Rattle.spl_values.specs.Tables.{key_bits}
 use Rattle.interval_keys.specs.Intervals.{Span}

@@ -1,5 +1,5 @@
 -- Plans: which trees a query asks for in each round, and how many words come back.
-use Rattle.std.specs.Prelude.{ℕ, ◌+◌, ◌-◌, ◌*◌, ◌^◌, Bool, true, false, nat_le, find, List, [], ◌∷◌, ◌++◌, length, replicate, Option, None, Some, unwrap_or, slice_index, if◌then◌else◌}
+use Rattle.std.specs.Prelude.{ℕ, ◌-◌, ◌*◌, ◌^◌, Bool, true, false, nat_le, find, List, [], ◌∷◌, length, replicate, unwrap_or, slice_index, if◌then◌else◌}
 use Rattle.std.specs.List.{flat_map, list_all, range_with_len}
 use Rattle.spl_words.specs.declared.secret.TreeKind.{TreeKind}
 use Rattle.spl_words.specs.declared.secret.TreeKind.TheVariants.{Point as PointTree, Threshold as ThresholdTree}

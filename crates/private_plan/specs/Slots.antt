@@ -1,5 +1,5 @@
 -- The slots of a query, and the secrets of their trees.
-use Rattle.std.specs.Prelude.{◌≡◌, ℕ, ◌%◌, ◌^◌, Bool, true, false, List, [], ◌∷◌, sum_by, Option, None, Some}
+use Rattle.std.specs.Prelude.{ℕ, ◌%◌, ◌^◌, Bool, true, false, List, [], ◌∷◌, sum_by, Option, None, Some}
 use Rattle.std.specs.List.{flat_map}
 use Rattle.spl_words.specs.declared.secret.TreeKind.TheVariants.{Point}
 use Rattle.spl_words.specs.Secrets.{Secret, secret_value}

@@ -1,5 +1,5 @@
-use Rattle.std.proofs.Common.{◌≡◌, ℕ, ◌+◌, ◌-◌, ◌<◌, ◌≤◌, suc, length, drop, get_or, ap, sym, ◌∙◌, arith}
-use Rattle.spl_values.specs.Tables.{column_bits, key_bits}
+use Rattle.std.proofs.Common.{◌≡◌, ◌+◌, ◌-◌, ◌<◌, suc, length, drop, ap, sym, ◌∙◌, arith}
+use Rattle.spl_values.specs.Tables.{key_bits}
 use Rattle.private_plan.specs.Branches.{branch_span}
 use Rattle.private_plan.proofs.Backwards.{from_last, before, bits_before, fewer_bits, fits_before, last_bits_alone}
 use Rattle.private_plan.proofs.branches.branch_span.Goals as goal

@@ -1,4 +1,4 @@
-use Rattle.std.proofs.Common.{◌≡◌, ◌≤◌, ◌-◌, length, drop}
+use Rattle.std.proofs.Common.{◌≡◌, ◌-◌, drop}
 use Rattle.spl_values.specs.Tables.{key_bits}
 use Rattle.private_plan.specs.Branches.{branch_span}
 use Rattle.private_plan.proofs.branches.branch_span.Given as goal

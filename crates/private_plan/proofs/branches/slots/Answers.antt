@@ -1,5 +1,4 @@
-use Rattle.std.proofs.Common.{◌≡◌, ◌∙◌, ap, sym, ◌<◌, ◌≤◌, ◌^◌, IfSome}
-use Rattle.std.specs.Prelude.{All}
+use Rattle.std.proofs.Common.{◌≡◌, ◌∙◌, ap, ◌^◌}
 use Rattle.interval_keys.specs.Slots.{slots}
 use Rattle.query_reader.proofs.Known.{checked_some, checked_bits}
 use Rattle.private_plan.proofs.Spans.{spans_fit}

@@ -1,4 +1,4 @@
-use Rattle.std.proofs.Common.{arith, ◌≡◌, ◌<◌, length, get_or, ap, sym, ◌∙◌, slice_get, Some}
+use Rattle.std.proofs.Common.{arith, ◌≡◌, ◌<◌, length, ap, sym, ◌∙◌, slice_get, Some}
 use Rattle.spl_values.specs.Kinds.{bits_of}
 use Rattle.spl_values.specs.Shapes.{ColumnParts, SchemaParts}
 use Rattle.spl_values.proofs.RowLaws.{column_bits-at}

@@ -1,8 +1,5 @@
-use Rattle.std.proofs.Common.{◌≡◌, ℕ, ◌+◌, ◌-◌, ◌^◌, ◌<◌, ◌≤◌, nat_le, ap, sym, ◌∙◌, arith}
-use Rattle.std.specs.Prelude.{replicate, unwrap_or, find, Some, None}
-use Rattle.std.specs.List.{range_with_len}
-use Rattle.spl_words.specs.declared.secret.TreeKind.TheVariants.{Point}
-use Rattle.private_plan.specs.Plans.{level_trees, slot_trees, second_trees, for_each_slot, tree, position_bits}
+use Rattle.std.proofs.Common.{◌≡◌, ◌^◌, ◌<◌, ◌≤◌, ap, sym, ◌∙◌, arith}
+use Rattle.std.specs.Prelude.{unwrap_or}
 use Rattle.private_plan.proofs.Loops.{passed_over, found, last_one}
 use Rattle.private_plan.proofs.layout.position_bits.Goals as goal
 

@@ -1,8 +1,7 @@
-use Rattle.std.proofs.Common.{◌≡◌, ℕ, ◌+◌, ◌-◌, ◌^◌, ◌<◌, ◌≤◌, nat_le, ◌++◌, List, [], ◌∷◌, ap, sym, ◌∙◌, arith}
-use Rattle.std.specs.Prelude.{replicate, unwrap_or, find, Some, None}
-use Rattle.std.specs.List.{range_with_len}
+use Rattle.std.proofs.Common.{◌-◌, ◌++◌, ap}
+use Rattle.std.specs.Prelude.{replicate}
 use Rattle.spl_words.specs.declared.secret.TreeKind.TheVariants.{Point}
-use Rattle.private_plan.specs.Plans.{level_trees, slot_trees, second_trees, for_each_slot, tree, position_bits}
+use Rattle.private_plan.specs.Plans.{level_trees, tree}
 use Rattle.private_plan.proofs.Loops.{next_turn}
 use Rattle.private_plan.proofs.layout.push_levels.Goals as goal
 

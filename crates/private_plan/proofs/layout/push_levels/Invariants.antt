@@ -1,6 +1,6 @@
-use Rattle.std.proofs.Common.{◌≡◌, ◌-◌, ◌++◌, ◌≤◌, List, length}
+use Rattle.std.proofs.Common.{◌≡◌, ◌-◌, ◌++◌}
 use Rattle.std.specs.List.{flat_map, range_with_len}
-use Rattle.private_plan.specs.Plans.{level_trees, slot_trees, second_trees, for_each_slot, tree}
+use Rattle.private_plan.specs.Plans.{level_trees, tree}
 use Rattle.spl_words.specs.declared.secret.TreeKind.TheVariants.{Point}
 use Rattle.std.specs.Prelude.{replicate}
 use Rattle.private_plan.proofs.layout.push_levels.Given as goal

@@ -1,8 +1,4 @@
-use Rattle.std.proofs.Common.{◌≡◌, ℕ, ◌+◌, ◌-◌, ◌^◌, ◌<◌, ◌≤◌, nat_le, ap, sym, ◌∙◌, arith}
-use Rattle.std.specs.Prelude.{replicate, unwrap_or, find, Some, None}
-use Rattle.std.specs.List.{range_with_len}
-use Rattle.spl_words.specs.declared.secret.TreeKind.TheVariants.{Point}
-use Rattle.private_plan.specs.Plans.{level_trees, slot_trees, second_trees, for_each_slot, tree, position_bits}
+use Rattle.private_plan.specs.Plans.{second_trees, for_each_slot}
 use Rattle.private_plan.proofs.Loops.{next_turn, no_turn}
 use Rattle.private_plan.proofs.Counts.{second_few, slots_few}
 use Rattle.std.proofs.Common.{refl}

@@ -1,4 +1,4 @@
-use Rattle.std.proofs.Common.{◌≡◌, ◌≤◌, length, ap, sym, ◌∙◌, arith}
+use Rattle.std.proofs.Common.{ap}
 use Rattle.spl_values.specs.Shapes.{ShapeParts}
 use Rattle.query_reader.proofs.Known.{checked_some, checked_columns, checked_bits}
 use Rattle.private_plan.proofs.Counts.{last_in_key}

@@ -1,8 +1,6 @@
-use Rattle.std.proofs.Common.{◌≡◌, ◌≤◌, ◌+◌, ◌*◌, length, take, All, ℕ, ◌-◌, ◌<◌}
+use Rattle.std.proofs.Common.{◌≡◌, ◌≤◌, ◌*◌, take}
 use Rattle.std.specs.List.{sum_by}
 use Rattle.private_plan.specs.Lengths.{key_length as length_of_key}
-use Rattle.private_plan.specs.Lengths.{trees_in}
-use Rattle.private_plan.specs.Lengths.{frame_length as length_of_frame}
 use Rattle.private_plan.proofs.lengths.keys_length.Given as goal
 
 abbrev pub invariant-loop-tree : goal.invariant-loop-tree

@@ -1,5 +1,5 @@
-use Rattle.std.proofs.Common.{ap, subst}
-use Rattle.spl_values.specs.Shapes.{ShapeParts, IsShape}
+use Rattle.std.proofs.Common.{subst}
+use Rattle.spl_values.specs.Shapes.{IsShape}
 use Rattle.query_reader.proofs.Known.{checked_least, checked_narrow}
 use Rattle.private_plan.proofs.secrets.round_secrets.Goals as goal
 
