@@ -1,0 +1,5 @@
+pub mod Backwards
+pub mod Counts
+pub mod Loops
+pub mod SlotSecrets
+pub mod Spans

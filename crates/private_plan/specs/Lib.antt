@@ -1,0 +1,4 @@
+pub mod Plans
+pub mod Lengths
+pub mod Branches
+pub mod Slots

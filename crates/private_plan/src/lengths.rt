@@ -1,0 +1,56 @@
+//! How long key frames are.
+ghost use Rattle.std.specs.Prelude.{◌≡◌, ◌≤◌, ◌+◌, ◌*◌, length, All};
+ghost use Rattle.std.specs.List.{sum_by};
+ghost use Rattle.private_plan.specs.Lengths.{key_length as length_of_key, trees_in, frame_length as length_of_frame};
+
+use crate::plans::{KeySpec, Plan};
+use spl_words::TreeKind;
+
+/// The bytes of a key in a frame.
+fn key_length(tree: &KeySpec) -> u64
+    requires { tree.now.depth ≤ 128 }
+    ensures { result ≡ length_of_key tree.now }
+{
+    let level = match tree.kind {
+        TreeKind::Point => 17,
+        TreeKind::Threshold => 33,
+    };
+    26 + level * u64::from(tree.depth)
+}
+
+/// The bytes of some keys in a frame.
+fn keys_length(trees: &[KeySpec]) -> u64
+    requires few { length trees.now ≤ 512 }
+    requires low { All (λ tree. tree.depth ≤ 128) trees.now }
+    ensures length { result ≡ sum_by length_of_key trees.now }
+    ensures short { result ≤ 512 * 4250 }
+{
+    let mut length = 0;
+    for tree in trees {
+        length += key_length(tree);
+    }
+    length
+}
+
+/// The trees of a round.
+fn trees(plan: &Plan, round: u32) -> &[KeySpec]
+    ensures { result.now ≡ trees_in plan.now round }
+{
+    if round == 2 {
+        plan.second.as_slice()
+    } else {
+        plan.first.as_slice()
+    }
+}
+
+/// The bytes of a round's key frame, from the lengths of its query text and its shape text, which are
+/// at most 65,535. A round has at most 512 keys, each of at most 128 levels.
+pub fn frame_length(plan: &Plan, round: u32, query: u64, shape: u64) -> u64
+    requires query { query ≤ 65535 }
+    requires shape { shape ≤ 65535 }
+    requires few { length (trees_in plan.now round) ≤ 512 }
+    requires low { All (λ tree. tree.depth ≤ 128) (trees_in plan.now round) }
+    ensures { result ≡ length_of_frame plan.now round query shape }
+{
+    61 + query + shape + keys_length(trees(plan, round))
+}

@@ -1,0 +1,19 @@
+//! What a query asks of the two providers: which trees in which round, and their secrets.
+#![tactic(auto)]
+
+mod branches;
+mod columns;
+pub mod laws;
+mod layout;
+mod lengths;
+mod plans;
+mod secrets;
+
+pub use branches::slots;
+pub use layout::plan;
+pub use lengths::frame_length;
+pub use plans::{KeySpec, Plan, PlanKind, Specs};
+pub use secrets::{SecretFault, Secrets, round_secrets};
+
+#[cfg(test)]
+mod tests;
