@@ -23,8 +23,14 @@ fn says_the_faults_of_queries(rt: HostRuntime) -> Result<(), AllocError> {
     for (fault, text) in [
         (QueryFault::NoReading(55), "query: no reading at 55"),
         (QueryFault::NoTable, "query: no table"),
-        (QueryFault::NoColumn(name_of(alloc, "b")?), "query: no column b"),
-        (QueryFault::WrongType(name_of(alloc, "b")?), "query: wrong type of b"),
+        (
+            QueryFault::NoColumn(name_of(alloc, "b")?),
+            "query: no column b",
+        ),
+        (
+            QueryFault::WrongType(name_of(alloc, "b")?),
+            "query: wrong type of b",
+        ),
         (QueryFault::NoSecret, "query: no secret"),
         (QueryFault::BranchesDiffer(1), "query: branch 1 differs"),
         (QueryFault::TooWide(136), "query: 136 key bits"),
