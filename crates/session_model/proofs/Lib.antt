@@ -1,0 +1,4 @@
+pub mod CellSums
+pub mod Shares
+pub mod TableRows
+pub mod Answers
