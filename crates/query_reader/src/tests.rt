@@ -213,20 +213,32 @@ fn codes_as_parameters(rt: HostRuntime) -> Result<(), Fail> {
     Ok(())
 }
 
+/// A query with 256 question marks.
+fn many_marks(rt: &HostRuntime) -> Result<String, Fail> {
+    let branch = repeated(rt, "", "a = ? AND ", 31, "a = ? OR ")?;
+    let last = repeated(rt, "", "a = ? AND ", 31, "a = ?")?;
+    repeated(
+        rt,
+        "SELECT COUNT(*) FROM t WHERE ",
+        branch.as_str(),
+        7,
+        last.as_str(),
+    )
+}
+
+/// What is said of so many parameters of it.
+fn of_many(rt: &HostRuntime, count: usize) -> Result<Result<Params, ParamFault>, Fail> {
+    let schema = schema(rt, b"table t\nrows 0\na UINT(1)\n")?;
+    let text = many_marks(rt)?;
+    let checked = checked(rt, &schema, text.as_str())?;
+    let codes = vec![in rt.alloc(); 0u128; count]?;
+    Ok(params_of_codes(rt.alloc(), &checked, &schema, codes.as_slice()))
+}
+
 /// A query with 256 question marks needs 256 parameters, and takes none.
 #[test]
 fn too_many_question_marks(rt: HostRuntime) -> Result<(), Fail> {
-    let schema = schema(&rt, b"table t\nrows 0\na UINT(1)\n")?;
-    let branch = repeated(&rt, "", "a = ? AND ", 31, "a = ?")?;
-    let other = format!(in rt.alloc(); " OR {}", branch.as_str())?;
-    let front = format!(in rt.alloc(); "SELECT COUNT(*) FROM t WHERE {}", branch.as_str())?;
-    let text = repeated(&rt, front.as_str(), other.as_str(), 7, "")?;
-    let checked = checked(&rt, &schema, text.as_str())?;
-    let codes = vec![in rt.alloc(); 0u128; 256]?;
-    let fault = params_of_codes(rt.alloc(), &checked, &schema, codes.as_slice());
-    assert!(rt; matches!(fault, Err(ParamFault::Count(256, 256))));
-    let words = Vec::new(rt.alloc());
-    let fault = params_of_words(rt.alloc(), &checked, &schema, words.as_slice());
-    assert!(rt; matches!(fault, Err(ParamFault::Count(256, 0))));
+    assert!(rt; matches!(of_many(&rt, 256)?, Err(ParamFault::Count(256, 256))));
+    assert!(rt; matches!(of_many(&rt, 0)?, Err(ParamFault::Count(256, 0))));
     Ok(())
 }
