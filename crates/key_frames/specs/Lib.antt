@@ -1,0 +1,5 @@
+pub mod Keys
+pub mod KeyReading
+pub mod Texts
+pub mod Frames
+pub mod FrameReading
