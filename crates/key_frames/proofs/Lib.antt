@@ -1,1 +1,3 @@
 pub mod KeyLaws
+pub mod ShapeTextLaws
+pub mod FrameLaws

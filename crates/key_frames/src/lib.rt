@@ -3,10 +3,14 @@
 #![tactic(auto)]
 
 mod frame;
+mod frame_reading;
 mod key_reading;
 mod keys;
+pub mod laws;
 mod note;
+mod texts;
 
 pub use frame::KeyFrame;
+pub use frame_reading::read_key_frame;
 pub use keys::{Key, Keys};
 pub use note::Note;
