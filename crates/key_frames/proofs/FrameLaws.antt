@@ -45,10 +45,13 @@ pub fields_field : IsField frame_fields_at Any FrameFits body
 unfolding frame_fields_at body
 fields_field =
     restate_field _ _ _ _ Any FrameFits body
-    (λ x f k. (tt, (
-      record { round = f.1.1.0; query_length = f.1.1.1.1.1.0; query = f.1.1.1.1.1.1.0.1; count = f.1.1.1.1.1.1.1.1.1.0; keys = allowed_of x.keys f.1.1.1.1.1.1.1.1.1.1.0 },
-      record { session = f.1.1.1.1.0; query = f.1.1.1.1.1.1.0.0; shape = f.1.1.1.1.1.1.1.1.0; keys = typed_of x.keys f.1.1.1.1.1.1.1.1.1.1.0 },
-    )))
+    (λ x f k. (
+      tt,
+      (
+        record { round = f.1.1.0; query_length = f.1.1.1.1.1.0; query = f.1.1.1.1.1.1.0.1; count = f.1.1.1.1.1.1.1.1.1.0; keys = allowed_of x.keys f.1.1.1.1.1.1.1.1.1.1.0 },
+        record { session = f.1.1.1.1.0; query = f.1.1.1.1.1.1.0.0; shape = f.1.1.1.1.1.1.1.1.0; keys = typed_of x.keys f.1.1.1.1.1.1.1.1.1.1.0 },
+      ),
+    ))
     (λ x k f. (tt, (tt, (tt, (f.0.round, (tt, (f.1.session, (f.0.query_length, ((f.1.query, f.0.query), (length_fits _ (shape_length x.shape f.1.shape), (f.1.shape, (f.0.count, (both_of x.keys f.0.keys f.1.keys, tt)))))))))))))
     (λ x. simp append-nil refl) (
     and_then (λ f. tt) (magic_at (codes "SPLK")) _ Any Any Any (λ x. codes "SPLK") _ _ (λ y k. tt) (magic_field (codes "SPLK")) (λ m mk.
