@@ -16,7 +16,7 @@ use Rattle.key_frames.specs.declared.keys.Key.{Key}
 use Rattle.key_frames.specs.Keys.{key, KeyAllowed, KeyTyped}
 use Rattle.key_frames.specs.Texts.{is_bad, canonical_shape}
 use Rattle.key_frames.specs.KeyReading.{key_at}
-use Rattle.key_frames.specs.Frames.{body, Allowed, Typed, KeyFrameOf}
+use Rattle.key_frames.specs.Frames.{frame_body, FrameAllowed, FrameTyped, KeyFrameOf}
 use Rattle.key_frames.specs.FrameReading.{frame_fields_at}
 use Rattle.key_frames.proofs.KeyLaws.{KeyFits, key_field, key_length}
 use Rattle.key_frames.proofs.ShapeTextLaws.{shape_spelled, shape_decoded, shape_length}
@@ -39,12 +39,12 @@ length_fits : (n : ℕ) → (1 ≤ n) × (n ≤ 51700) → (1 ≤ n) × (n ≤ 6
 length_fits n f = (f.0, omega (arith, f.1))
 
 abbrev FrameFits : KeyFrame → Type 0
-FrameFits f = Allowed f × Typed f
+FrameFits f = FrameAllowed f × FrameTyped f
 
-pub fields_field : IsField frame_fields_at Any FrameFits body
-unfolding frame_fields_at body
+pub fields_field : IsField frame_fields_at Any FrameFits frame_body
+unfolding frame_fields_at frame_body
 fields_field =
-    restate_field _ _ _ _ Any FrameFits body
+    restate_field _ _ _ _ Any FrameFits frame_body
     (λ x f k. (
       tt,
       (
@@ -69,24 +69,24 @@ fields_field =
     (((((((((((tt, refl), refl), refl), refl), refl), qk.0), refl), hk.0), refl), kk.0), refl)
     (λ y e. λ i. record { session = e.0.0.0.0.0.0.1 i; round = e.0.0.0.0.0.0.0.0.1 i; provider = e.0.0.0.0.0.0.0.1 i; query = e.0.0.0.0.1 i; shape = e.0.0.1 i; keys = e.1 i })))))))))))))
 
-length-body : (f : KeyFrame) → FrameFits f → length (sealed (body f)) ≤ 4194304
-unfolding body
-length-body f t =
+length-frame : (f : KeyFrame) → FrameFits f → length (sealed (frame_body f)) ≤ 4194304
+unfolding frame_body
+length-frame f t =
     let keys = length_of_parts_le KeyFits key 4250 key_length f.keys (both_of f.keys t.0.keys t.1.keys) in
     let rest = to_be_bytes w16 (length f.keys) ++ flat_map key f.keys in
     let shape = to_be_bytes w16 (length (shape_text f.shape)) ++ (shape_text f.shape ++ rest) in
     let text = shape_length f.shape t.1.shape in
-    omega (arith, length-sealed (body f), length-append f.query shape, length-append (shape_text f.shape) rest, keys, t.0.query_length.1, text.1, t.0.count.1)
+    omega (arith, length-sealed (frame_body f), length-append f.query shape, length-append (shape_text f.shape) rest, keys, t.0.query_length.1, text.1, t.0.count.1)
 
 pub is_found : (bytes : List ℕ) (r : Result KeyFrame FrameFault) → IsBytes bytes → Gives (λ x. x) r (frame_at frame_fields_at bytes) → IfOk r (λ f. KeyFrameOf bytes f)
 is_found bytes (Ok f) are given =
-    let h = reader_found frame_fields_at FrameFits body fields_field bytes (Ok f) are given in
+    let h = reader_found frame_fields_at FrameFits frame_body fields_field bytes (Ok f) are given in
     record { allowed = h.0.0; typed = h.0.1; spelled = h.1 }
 is_found bytes (Err e) are given = tt
 
 pub is_only : (bytes : List ℕ) (r : Result KeyFrame FrameFault) → Gives (λ x. x) r (frame_at frame_fields_at bytes) → (f : KeyFrame) → KeyFrameOf bytes f → Gives (λ x. x) r (Ok f)
-is_only bytes r given f of = reader_only frame_fields_at FrameFits body fields_field bytes r given f (of.allowed, of.typed) (length-body f (of.allowed, of.typed)) of.spelled
+is_only bytes r given f of = reader_only frame_fields_at FrameFits frame_body fields_field bytes r given f (of.allowed, of.typed) (length-frame f (of.allowed, of.typed)) of.spelled
 
 pub none_is_prefix : (b1 b2 more : List ℕ) (f g : KeyFrame) → KeyFrameOf b1 f → KeyFrameOf b2 g → b1 ++ more ≡ b2 → (f ≡ g) × (more ≡ [])
 none_is_prefix b1 b2 more f g a b e =
-    no_prefix frame_fields_at FrameFits body fields_field f g more (a.allowed, a.typed) (b.allowed, b.typed) (ap (λ (t : List ℕ). t ++ more) (sym a.spelled) ∙ e ∙ b.spelled)
+    no_prefix frame_fields_at FrameFits frame_body fields_field f g more (a.allowed, a.typed) (b.allowed, b.typed) (ap (λ (t : List ℕ). t ++ more) (sym a.spelled) ∙ e ∙ b.spelled)

@@ -1,3 +1,4 @@
 pub mod KeyLaws
 pub mod ShapeTextLaws
 pub mod FrameLaws
+pub mod NoteLaws

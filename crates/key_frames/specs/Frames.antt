@@ -11,15 +11,15 @@ use Rattle.key_frames.specs.Keys.{key, KeyAllowed, KeyTyped}
 use Rattle.key_frames.specs.Texts.{is_bad}
 
 -- the fields before the digest
-unfoldable pub body : KeyFrame → List ℕ
-body f =
+unfoldable pub frame_body : KeyFrame → List ℕ
+frame_body f =
     codes "SPLK" ++ (1 ∷ (to_be_bytes w8 f.round ++ (provider_byte f.provider ∷ (to_be_bytes w128 f.session
     ++ (to_be_bytes w16 (length f.query) ++ (f.query
     ++ (to_be_bytes w16 (length (shape_text f.shape)) ++ (shape_text f.shape
     ++ (to_be_bytes w16 (length f.keys) ++ flat_map key f.keys)))))))))
 
 -- the values that a frame may have
-pub record Allowed (f : KeyFrame) : Type 0 where
+pub record FrameAllowed (f : KeyFrame) : Type 0 where
   pub round : (1 ≤ f.round) × (f.round ≤ 2)
   pub query_length : (1 ≤ length f.query) × (length f.query ≤ 4096)
   pub query : position is_bad f.query ≡ None
@@ -27,7 +27,7 @@ pub record Allowed (f : KeyFrame) : Type 0 where
   pub keys : AllByRecursion KeyAllowed f.keys
 
 -- what the types of its fields say
-pub record Typed (f : KeyFrame) : Type 0 where
+pub record FrameTyped (f : KeyFrame) : Type 0 where
   pub session : f.session < 2 ^ 128
   pub query : IsBytes f.query
   pub shape : IsShape f.shape
@@ -35,6 +35,6 @@ pub record Typed (f : KeyFrame) : Type 0 where
 
 -- the bytes are the frame's
 pub record KeyFrameOf (bytes : List ℕ) (f : KeyFrame) : Type 0 where
-  pub allowed : Allowed f
-  pub typed : Typed f
-  pub spelled : bytes ≡ sealed (body f)
+  pub allowed : FrameAllowed f
+  pub typed : FrameTyped f
+  pub spelled : bytes ≡ sealed (frame_body f)

@@ -3,3 +3,5 @@ pub mod KeyReading
 pub mod Texts
 pub mod Frames
 pub mod FrameReading
+pub mod Notes
+pub mod NoteReading

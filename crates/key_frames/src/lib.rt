@@ -4,13 +4,20 @@
 
 mod frame;
 mod frame_reading;
+mod frame_writing;
 mod key_reading;
+mod key_writing;
 mod keys;
 pub mod laws;
 mod note;
+mod note_reading;
+mod note_writing;
 mod texts;
 
 pub use frame::KeyFrame;
 pub use frame_reading::read_key_frame;
+pub use frame_writing::write_key_frame;
 pub use keys::{Key, Keys};
 pub use note::Note;
+pub use note_reading::read_note;
+pub use note_writing::write_note;

@@ -1,9 +1,11 @@
 //! Reading the two texts that frames and notes have.
-ghost use Rattle.std.specs.Prelude.{◌≡◌, MatchResult};
+ghost use Rattle.std.specs.Prelude.{◌≡◌, ◌≤◌, length, MatchResult};
 ghost use Rattle.std.specs.List.{position};
 ghost use Rattle.spl_words.specs.declared.fault.FrameFault.TheVariants.{OutOfMemory};
 ghost use Rattle.frame_fields.specs.Reading.{Reads, text_at, decoded_at};
 ghost use Rattle.key_frames.specs.Texts.{is_bad, canonical_shape};
+ghost use Rattle.spl_values.specs.Shapes.{IsShape};
+ghost use Rattle.spl_values.specs.ShapeTexts.{shape_text as canonical};
 
 use frame_fields::take;
 use spl_values::{Bytes, Shape, ShapeFault, print_shape, read_shape};
@@ -59,4 +61,13 @@ pub fn shape_text(alloc: Global, fields: &mut Fields, len: u16) -> Result<Shape,
         Some(shape) => Ok(shape),
         None => Err(FrameFault::BadField(from)),
     }
+}
+
+/// What a shape keeps, and that its canonical text has 1 to 51,700 bytes. It does nothing.
+pub fn see_shape(shape: &Shape)
+    ensures is { IsShape shape.now }
+    ensures some { 1 ≤ length (canonical shape.now) }
+    ensures count { length (canonical shape.now) ≤ 51700 }
+{
+    let _ = &shape.schema;
 }
