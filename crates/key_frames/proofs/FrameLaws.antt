@@ -19,7 +19,7 @@ use Rattle.key_frames.specs.KeyReading.{key_at}
 use Rattle.key_frames.specs.Frames.{frame_body, FrameAllowed, FrameTyped, KeyFrameOf}
 use Rattle.key_frames.specs.FrameReading.{frame_fields_at}
 use Rattle.key_frames.proofs.KeyLaws.{KeyFits, key_field, key_length}
-use Rattle.key_frames.proofs.ShapeTextLaws.{shape_spelled, shape_decoded, shape_length}
+use Rattle.key_frames.proofs.ShapeTextLaws.{shape_spelled, shape_decoded, shape_length, shape_fits}
 
 -- keys that fit are allowed and typed, and the other way round
 allowed_of : (ks : List Key) → AllByRecursion KeyFits ks → AllByRecursion KeyAllowed ks
@@ -33,10 +33,6 @@ typed_of (k ∷ ks) f = (f.0.1, typed_of ks f.1)
 both_of : (ks : List Key) → AllByRecursion KeyAllowed ks → AllByRecursion KeyTyped ks → AllByRecursion KeyFits ks
 both_of [] a t = tt
 both_of (k ∷ ks) a t = ((a.0, t.0), both_of ks a.1 t.1)
-
--- the length of a shape's text, as its field holds it
-length_fits : (n : ℕ) → (1 ≤ n) × (n ≤ 51700) → (1 ≤ n) × (n ≤ 65535)
-length_fits n f = (f.0, omega (arith, f.1))
 
 abbrev FrameFits : KeyFrame → Type 0
 FrameFits f = FrameAllowed f × FrameTyped f
@@ -52,7 +48,7 @@ fields_field =
         record { session = f.1.1.1.1.0; query = f.1.1.1.1.1.1.0.0; shape = f.1.1.1.1.1.1.1.1.0; keys = typed_of x.keys f.1.1.1.1.1.1.1.1.1.1.0 },
       ),
     ))
-    (λ x k f. (tt, (tt, (tt, (f.0.round, (tt, (f.1.session, (f.0.query_length, ((f.1.query, f.0.query), (length_fits _ (shape_length x.shape f.1.shape), (f.1.shape, (f.0.count, (both_of x.keys f.0.keys f.1.keys, tt)))))))))))))
+    (λ x k f. (tt, (tt, (tt, (f.0.round, (tt, (f.1.session, (f.0.query_length, ((f.1.query, f.0.query), (shape_fits x.shape f.1.shape, (f.1.shape, (f.0.count, (both_of x.keys f.0.keys f.1.keys, tt)))))))))))))
     (λ x. simp append-nil refl) (
     and_then (λ f. tt) (magic_at (codes "SPLK")) _ Any Any Any (λ x. codes "SPLK") _ _ (λ y k. tt) (magic_field (codes "SPLK")) (λ m mk.
     and_then (λ f. tt) (version_at 1) _ _ Any Any (λ x. 1 ∷ []) _ _ (λ y k. tt) (version_field 1 (omega arith)) (λ v vk.

@@ -17,11 +17,7 @@ use Rattle.key_frames.specs.declared.note.Note.{Note}
 use Rattle.key_frames.specs.Texts.{is_bad, canonical_shape}
 use Rattle.key_frames.specs.Notes.{note_body, NoteAllowed, NoteTyped, NoteOf}
 use Rattle.key_frames.specs.NoteReading.{is_table, table_at, note_fields_at}
-use Rattle.key_frames.proofs.ShapeTextLaws.{shape_spelled, shape_decoded, shape_length}
-
--- the length of a shape's text, as its field holds it
-length_fits : (n : ℕ) → (1 ≤ n) × (n ≤ 51700) → (1 ≤ n) × (n ≤ 65535)
-length_fits n f = (f.0, omega (arith, f.1))
+use Rattle.key_frames.proofs.ShapeTextLaws.{shape_spelled, shape_decoded, shape_length, shape_fits}
 
 -- in round 1 the test of a table's digest is passed by zeros alone, in round 2 by each
 zeros_of : (round : ℕ) (digest : List ℕ) → is_table round digest ≡ true → round ≡ 1 → digest ≡ replicate 32 0
@@ -57,7 +53,7 @@ note_field =
         record { session = f.1.1.1.0; query = f.1.1.1.1.1.0.0; shape = f.1.1.1.1.1.1.1.0; params = f.1.1.1.1.1.1.1.1.1.0; key_zero = f.1.1.1.1.1.1.1.1.1.1.0; key_one = f.1.1.1.1.1.1.1.1.1.1.1.0; table = f.1.1.1.1.1.1.1.1.1.1.1.1.0.0 },
       ),
     ))
-    (λ x k f. (tt, (tt, (tt, (f.0.round, (f.1.session, (f.0.query_length, ((f.1.query, f.0.query), (length_fits _ (shape_length x.shape f.1.shape), (f.1.shape, (f.0.count, (f.1.params, (f.1.key_zero, (f.1.key_one, ((f.1.table, is_table_of x.round x.table f.0.round.1 f.0.round.0 f.0.table), tt)))))))))))))))
+    (λ x k f. (tt, (tt, (tt, (f.0.round, (f.1.session, (f.0.query_length, ((f.1.query, f.0.query), (shape_fits x.shape f.1.shape, (f.1.shape, (f.0.count, (f.1.params, (f.1.key_zero, (f.1.key_one, ((f.1.table, is_table_of x.round x.table f.0.round.1 f.0.round.0 f.0.table), tt)))))))))))))))
     (λ x. simp append-nil refl) (
     and_then (λ f. tt) (magic_at (codes "SPLN")) _ Any Any Any (λ x. codes "SPLN") _ _ (λ y k. tt) (magic_field (codes "SPLN")) (λ m mk.
     and_then (λ f. tt) (version_at 1) _ _ Any Any (λ x. 1 ∷ []) _ _ (λ y k. tt) (version_field 1 (omega arith)) (λ v vk.

@@ -92,3 +92,7 @@ shape_length s h =
     let first = length-append s.schema.table (10 ∷ ((codes "rows " ++ decimal s.rows) ++ 10 ∷ rows)) in
     let second = length-append (decimal s.rows) (10 ∷ rows) in
     (omega (arith, first), omega (arith, first, second, columns, name, number, h.schema.few))
+
+-- so the two bytes of its length hold it
+pub shape_fits : (s : ShapeParts) → IsShape s → (1 ≤ length (shape_text s)) × (length (shape_text s) ≤ 65535)
+shape_fits s h = let few = shape_length s h in (few.0, omega (arith, few.1))

@@ -12,6 +12,8 @@ pub mod laws;
 mod note;
 mod note_reading;
 mod note_writing;
+#[cfg(test)]
+mod tests;
 mod texts;
 
 pub use frame::KeyFrame;
