@@ -1,0 +1,4 @@
+pub mod KeyLaws
+pub mod ShapeTextLaws
+pub mod FrameLaws
+pub mod NoteLaws

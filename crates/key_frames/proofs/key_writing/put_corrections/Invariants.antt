@@ -1,0 +1,7 @@
+use Rattle.std.proofs.Common.{◌≡◌, ◌++◌, take}
+use Rattle.std.specs.List.{flat_map, AllByRecursion}
+use Rattle.key_frames.specs.Keys.{correction, CorrectionTyped}
+use Rattle.key_frames.proofs.key_writing.put_corrections.Given as goal
+
+abbrev pub invariant-loop-level : goal.invariant-loop-level
+invariant-loop-level l = (l.out.items ≡ l.fn.out.items ++ flat_map correction (take l.level-index l.levels)) × AllByRecursion CorrectionTyped (take l.level-index l.levels)
