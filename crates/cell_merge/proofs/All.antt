@@ -1,15 +1,15 @@
 -- The empty cell, and the merge of the cells of many parts.
-use Rattle.std.proofs.Common.{◌≡◌, ◌≢◌, ℕ, zero, suc, ◌+◌, ◌*◌, ◌%◌, ◌^◌, ◌<◌, ◌≤◌, Bool, true, false, ◌||◌, cond, eqb, List, [], ◌∷◌, ◌++◌, length, map, take, drop, replicate, Option, None, Some, refl, ap, subst, inl, inr, sym, ◌∙◌, arith}
-use Rattle.std.specs.List.{filter, flat_map, fold, list_any, range_with_len, AllByRecursion}
+use Rattle.std.proofs.Common.{◌≡◌, ◌≢◌, ℕ, zero, suc, ◌+◌, ◌*◌, ◌^◌, ◌<◌, Bool, true, false, ◌||◌, cond, eqb, List, [], ◌∷◌, ◌++◌, length, map, replicate, Option, None, Some, refl, ap, subst, inl, inr, sym, ◌∙◌, arith}
+use Rattle.std.specs.List.{filter, flat_map, fold, range_with_len, AllByRecursion}
 use Rattle.std.proofs.lemmas.Bool.{cases_Bool, false≢true, eqb-true, ne_eqb, or_cases}
 use Rattle.std.proofs.lemmas.List.{append-nil, replicate-append-replicate}
 use Rattle.std.proofs.lemmas.List.Elements.{filter_agree}
 use Rattle.cell_merge.specs.declared.spec.CellItem.{CellItem}
 use Rattle.cell_merge.specs.declared.spec.CellItem.TheVariants.{Count, Sum, Avg, Max, Min, TopK}
 use Rattle.cell_merge.specs.declared.spec.CellSpec.{CellSpec}
-use Rattle.cell_merge.specs.Rows.{Row, Interleaves, Apart, Distinct, code, one_of}
-use Rattle.cell_merge.specs.Entries.{before, ordered, words_of}
-use Rattle.cell_merge.specs.Cells.{Addends, addend, item_width, items_width, item_words, items_words, block, block_width, greatest, least, with_label, groups, blocks, cell, cell_width, empty_cell, merge, merge_all}
+use Rattle.cell_merge.specs.Rows.{Row, Apart, Distinct, one_of}
+use Rattle.cell_merge.specs.Entries.{ordered, words_of}
+use Rattle.cell_merge.specs.Cells.{Addends, item_width, items_width, item_words, items_words, block, block_width, greatest, least, with_label, groups, blocks, cell, empty_cell, merge, merge_all}
 use Rattle.cell_merge.proofs.Labels.{cell_merge_picked}
 
 pub no_words : (k : ℕ) → words_of k [] ≡ replicate (3 * k) 0

@@ -1,11 +1,11 @@
 -- The first k of the entries of two lists.
-use Rattle.std.proofs.Common.{◌≡◌, ◌≢◌, ℕ, zero, suc, ◌+◌, ◌<◌, Bool, true, false, List, [], ◌∷◌, ◌++◌, length, take, refl, ap, sym, ◌∙◌, arith}
+use Rattle.std.proofs.Common.{◌≡◌, ◌≢◌, ℕ, zero, suc, ◌+◌, false, List, [], ◌∷◌, ◌++◌, take, refl, ap, sym, ◌∙◌}
 use Rattle.std.specs.List.{AllByRecursion}
 use Rattle.cell_merge.specs.Rows.{Interleaves}
 use Rattle.cell_merge.specs.Rows.Interleaves.{none, left, right}
 use Rattle.cell_merge.specs.declared.entry.Entry.{Entry}
-use Rattle.cell_merge.specs.Entries.{before, placed, ordered, put, in_order}
-use Rattle.cell_merge.proofs.Lists.{each_weaker, each-take, each_left, each_right}
+use Rattle.cell_merge.specs.Entries.{before, ordered, put, in_order}
+use Rattle.cell_merge.proofs.Lists.{each-take, each_left, each_right}
 use Rattle.cell_merge.proofs.Sorting.{put_comm, in_order-append, take-puts, puts, InOrder, in_order_fixed, each-in_order, InOrder-in_order}
 
 pub InOrder-take : (k : ℕ) (l : List Entry) → InOrder l → InOrder (take k l)

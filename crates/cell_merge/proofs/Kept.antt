@@ -1,5 +1,5 @@
 -- Entries that are taken in one by one.
-use Rattle.std.proofs.Common.{◌≡◌, ◌≢◌, ℕ, zero, suc, ◌+◌, ◌-◌, ◌*◌, ◌<◌, ◌≤◌, ◌⊎◌, Bool, true, false, cond, eqb, List, [], ◌∷◌, ◌++◌, length, take, drop, slice_index, get_or, replicate, inl, inr, refl, ap, sym, ◌∙◌, arith, add-one, length-append}
+use Rattle.std.proofs.Common.{◌≡◌, ◌≢◌, ℕ, zero, suc, ◌+◌, ◌-◌, ◌*◌, ◌<◌, ◌≤◌, Bool, true, false, cond, eqb, List, [], ◌∷◌, ◌++◌, length, take, drop, slice_index, replicate, inl, inr, refl, ap, sym, ◌∙◌, arith, add-one}
 use Rattle.std.proofs.lemmas.Bool.{cases_Bool, cond-true, cond-false, false≢true, eq-eqb, ne_eqb}
 use Rattle.std.proofs.lemmas.List.{take-take, take_all, append-nil, append_assoc, drop_all, length-drop}
 use borrow.Rule.Slice.PartMut.{put_mid, post_of}
@@ -7,8 +7,8 @@ use Rattle.cell_merge.specs.declared.entry.Entry.{Entry}
 use Rattle.cell_merge.specs.Entries.{before, placed, ordered, entries_of, words_of}
 use Rattle.cell_merge.proofs.Sorting.{put-behind, put-ahead, put-nil, before-asym, before-through}
 use Rattle.cell_merge.proofs.Words.{words_of-take}
-use Rattle.cell_merge.specs.Triples.{after, behind, entry_at, kept, triples}
-use Rattle.cell_merge.proofs.Triples.{behind-first, behind-later, behind-nil, length-triples}
+use Rattle.cell_merge.specs.Triples.{behind, entry_at, kept, triples}
+use Rattle.cell_merge.proofs.Triples.{behind-first, behind-later, behind-nil}
 
 -- ---- from the front and from the back
 

@@ -1,11 +1,11 @@
 -- The merge of cells, label by label.
-use Rattle.std.proofs.Common.{◌≡◌, ◌≢◌, ℕ, zero, suc, ◌+◌, ◌*◌, ◌%◌, ◌^◌, ◌<◌, ◌≤◌, Bool, true, false, ◌||◌, cond, eqb, List, [], ◌∷◌, ◌++◌, length, map, take, drop, Option, None, Some, refl, ap, sym, ◌∙◌, arith, length-append}
+use Rattle.std.proofs.Common.{◌≡◌, ◌≢◌, ℕ, zero, suc, ◌+◌, ◌^◌, ◌<◌, Bool, true, false, ◌||◌, cond, eqb, List, [], ◌∷◌, ◌++◌, length, map, Option, None, Some, refl, ap, ◌∙◌, arith, length-append}
 use Rattle.std.specs.List.{filter, flat_map, range_with_len, AllByRecursion}
-use Rattle.std.proofs.lemmas.List.{take_at, drop_at, append-nil, take_all}
+use Rattle.std.proofs.lemmas.List.{take_at, drop_at}
 use Rattle.cell_merge.specs.declared.spec.CellItem.{CellItem}
 use Rattle.cell_merge.specs.declared.spec.CellSpec.{CellSpec}
 use Rattle.cell_merge.specs.Rows.{Row, Interleaves, Apart, code}
-use Rattle.cell_merge.specs.Cells.{Addends, addend, item_width, items_width, item_words, items_words, block, block_width, merge_block, merge_blocks, with_label, groups, blocks, cell, merge}
+use Rattle.cell_merge.specs.Cells.{Addends, items_width, item_words, items_words, block, block_width, merge_blocks, with_label, groups, blocks, cell, merge}
 use Rattle.cell_merge.proofs.Lists.{each-filter, length-filter-le, Interleaves-filter, Interleaves-parts}
 use Rattle.cell_merge.proofs.Merging.{block_merge, length-item_words}
 

@@ -1,5 +1,5 @@
 -- The merge of the cells of two disjoint lists of rows.
-use Rattle.std.proofs.Common.{◌≡◌, ◌≢◌, ℕ, zero, suc, ◌+◌, ◌*◌, ◌%◌, ◌^◌, ◌<◌, ◌≤◌, min, max, Bool, true, false, cond, eqb, List, [], ◌∷◌, ◌++◌, length, map, take, drop, slice_index, sum_by, refl, ap, sym, ◌∙◌, arith}
+use Rattle.std.proofs.Common.{◌≡◌, ◌≢◌, ℕ, suc, ◌+◌, ◌%◌, ◌^◌, ◌<◌, min, max, cond, eqb, List, [], ◌∷◌, ◌++◌, length, map, take, sum_by, refl, ap, sym, ◌∙◌, arith}
 use Rattle.std.specs.List.{AllByRecursion}
 use Rattle.std.proofs.Math.Nat.{mod-add-mod, add-mod-mod, mod-eq_of_lt}
 use Rattle.std.proofs.lemmas.Bool.Decides.{nat_tests}
@@ -10,10 +10,9 @@ use Rattle.cell_merge.specs.declared.spec.CellItem.TheVariants.{Count, Sum, Avg,
 use Rattle.spl_words.specs.Words.{plus}
 use Rattle.cell_merge.specs.Rows.{Row, Interleaves, Apart, code}
 use Rattle.cell_merge.specs.Rows.Interleaves.{none, left, right}
-use Rattle.cell_merge.specs.declared.entry.Entry.{Entry}
 use Rattle.cell_merge.specs.Entries.{entries_of, words_of, in_order, entry}
-use Rattle.cell_merge.specs.Cells.{Addends, addend, item_width, items_width, greatest, least, item_words, items_words, block, better, merge_item, merge_items, merge_block}
-use Rattle.cell_merge.proofs.Lists.{each-map, each-take, each_weaker, Interleaves-map, length-interleaved}
+use Rattle.cell_merge.specs.Cells.{Addends, addend, item_width, greatest, least, item_words, items_words, block, better, merge_item, merge_items, merge_block}
+use Rattle.cell_merge.proofs.Lists.{each-map, each_weaker, Interleaves-map, length-interleaved}
 use Rattle.cell_merge.proofs.Sorting.{each-in_order}
 use Rattle.cell_merge.proofs.Best.{ApartEntries, best_of_best, in_order_interleaved, separate_interleaved}
 use Rattle.cell_merge.proofs.Words.{words_of-take, length-words_of, entries_of-words_of}

@@ -1,7 +1,7 @@
 -- The cell of one row.
-use Rattle.std.proofs.Common.{◌≡◌, ◌≢◌, ℕ, zero, suc, ◌+◌, ◌-◌, ◌*◌, ◌%◌, ◌^◌, ◌<◌, ◌≤◌, max, Bool, true, false, cond, eqb, List, [], ◌∷◌, ◌++◌, length, map, take, drop, replicate, slice_index, slice_get, get_or, set, sum_by, All, Option, None, Some, refl, ap, sym, ◌∙◌, arith, add-one, IsTrue}
-use Rattle.std.specs.List.{AllByRecursion, filter, flat_map, range_with_len}
-use Rattle.std.proofs.Math.Nat.{mod-eq_of_lt, pow-le-pow_right, add-mul, mul-le-mul_right}
+use Rattle.std.proofs.Common.{◌≡◌, ◌≢◌, ℕ, zero, suc, ◌+◌, ◌-◌, ◌*◌, ◌^◌, ◌<◌, ◌≤◌, cond, eqb, List, [], ◌∷◌, ◌++◌, length, map, take, drop, replicate, slice_index, slice_get, get_or, set, All, Option, None, Some, refl, ap, sym, ◌∙◌, arith, add-one, IsTrue}
+use Rattle.std.specs.List.{AllByRecursion, flat_map, range_with_len}
+use Rattle.std.proofs.Math.Nat.{pow-le-pow_right, add-mul, mul-le-mul_right}
 use Rattle.std.proofs.lemmas.Nat.{pow_pos}
 use Rattle.std.proofs.lemmas.Bool.{cond-true, cond-false, ne_eqb}
 use Rattle.std.proofs.lemmas.Bool.Decides.{nat_tests}
@@ -19,16 +19,15 @@ use Rattle.spl_values.specs.declared.kinds.ColumnType.TheVariants.{Uint, Text, E
 use Rattle.spl_values.specs.declared.values.Value.{Value}
 use Rattle.spl_values.specs.declared.values.Value.TheVariants as value
 use Rattle.cell_merge.specs.declared.spec.CellItem.{CellItem}
-use Rattle.cell_merge.specs.declared.spec.CellItem.TheVariants.{Count, Sum, Avg, Max, Min, TopK}
 use Rattle.cell_merge.specs.declared.entry.Entry.{Entry}
 use Rattle.cell_merge.specs.Rows.{Row, Apart, code}
-use Rattle.cell_merge.specs.Entries.{before, placed, ordered, in_order, words_of, entry}
+use Rattle.cell_merge.specs.Entries.{placed, ordered, in_order, words_of, entry}
 use Rattle.cell_merge.specs.Triples.{with_entry}
-use Rattle.cell_merge.specs.Cells.{Addends, addend, item_width, items_width, item_words, items_words, block, block_width, greatest, least, with_label}
+use Rattle.cell_merge.specs.Cells.{Addends, item_width, items_width, item_words, items_words, block, block_width, greatest, least, with_label}
 use Rattle.cell_merge.specs.TableRows.{HasLabels, IsNumbers, codes_of, kind_in, kind_or_numbers, row_in, rows_of}
-use Rattle.cell_merge.proofs.Labels.{length-items_words, length-block}
+use Rattle.cell_merge.proofs.Labels.{length-items_words}
 use Rattle.cell_merge.proofs.All.{no_words, no_block}
-use Rattle.cell_merge.proofs.Blocks.{items_width-room, items_width-add-one, part_of_done, more_done}
+use Rattle.cell_merge.proofs.Blocks.{items_width-room, part_of_done, more_done}
 
 -- ---- codes of a row
 

@@ -1,11 +1,10 @@
 -- Lists of words seen as entries.
-use Rattle.std.proofs.Common.{◌≡◌, ◌≢◌, ℕ, zero, suc, ◌+◌, ◌-◌, ◌*◌, ◌<◌, ◌≤◌, ◌⊎◌, Bool, true, false, cond, eqb, List, [], ◌∷◌, ◌++◌, length, take, drop, slice_index, get_or, set, inl, inr, replicate, refl, ap, sym, ◌∙◌, arith, add-one, length-append}
+use Rattle.std.proofs.Common.{◌≡◌, ◌≢◌, ℕ, zero, suc, ◌+◌, ◌-◌, ◌*◌, ◌<◌, ◌≤◌, ◌⊎◌, Bool, true, false, cond, List, [], ◌∷◌, ◌++◌, length, take, drop, slice_index, get_or, set, inl, inr, refl, ap, sym, ◌∙◌, arith, add-one, length-append}
 use Rattle.std.proofs.lemmas.Bool.{cases_Bool, cases_lt, cond-true, cond-false, false≢true}
-use Rattle.std.proofs.lemmas.List.{get_or_at, get_or_append_left, take_all, take_at, get_or-drop, drop_more, take-take, append_assoc, get_or-set_other, get_or-set_same, length-set, drop_all}
+use Rattle.std.proofs.lemmas.List.{get_or_at, get_or_append_left, take_all, take_at, drop_more, append_assoc, get_or-set_other, get_or-set_same, length-set, drop_all}
 use Rattle.cell_merge.specs.declared.entry.Entry.{Entry}
-use Rattle.cell_merge.specs.Entries.{before, placed, ordered, entries_of, words_of}
-use Rattle.cell_merge.proofs.Sorting.{put-behind, put-ahead, put-nil, before-asym, before-through}
-use Rattle.cell_merge.specs.Triples.{after, behind, entry_at, kept, triples, with_entry}
+use Rattle.cell_merge.specs.Entries.{before}
+use Rattle.cell_merge.specs.Triples.{after, behind, entry_at, triples, with_entry}
 
 -- ---- an entry in words
 

@@ -1,5 +1,5 @@
 -- Cells: the words that summarise some rows, and how two cells are merged.
-use Rattle.std.specs.Prelude.{◌≡◌, ℕ, zero, suc, ◌+◌, ◌*◌, ◌%◌, ◌^◌, min, max, ◌==◌, if◌then◌else◌, List, [], ◌∷◌, ◌++◌, length, map, take, drop, replicate, slice_index}
+use Rattle.std.specs.Prelude.{ℕ, zero, suc, ◌+◌, ◌*◌, ◌%◌, ◌^◌, min, max, ◌==◌, if◌then◌else◌, List, [], ◌∷◌, ◌++◌, length, map, take, drop, replicate, slice_index}
 use Rattle.std.specs.Prelude.{Option, None, Some}
 use Rattle.std.specs.List.{sum_by, filter, flat_map, fold, range_with_len}
 use Rattle.cell_merge.specs.declared.spec.CellItem.{CellItem}
@@ -7,7 +7,6 @@ use Rattle.cell_merge.specs.declared.spec.CellItem.TheVariants.{Count, Sum, Avg,
 use Rattle.cell_merge.specs.declared.spec.CellSpec.{CellSpec}
 use Rattle.spl_words.specs.Words.{plus}
 use Rattle.cell_merge.specs.Rows.{Row, code}
-use Rattle.cell_merge.specs.declared.entry.Entry.{Entry}
 use Rattle.cell_merge.specs.Entries.{in_order, entries_of, words_of, entry}
 
 -- how many words an item has

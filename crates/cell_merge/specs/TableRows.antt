@@ -5,7 +5,7 @@ use Rattle.spl_values.specs.Codes.{code_of}
 use Rattle.spl_values.specs.Shapes.{ColumnParts}
 use Rattle.spl_values.specs.Tables.{TableParts, column_bits}
 use Rattle.spl_values.specs.declared.kinds.ColumnType.{ColumnType}
-use Rattle.spl_values.specs.declared.kinds.ColumnType.TheVariants.{Uint, Text, Enum}
+use Rattle.spl_values.specs.declared.kinds.ColumnType.TheVariants.{Uint, Enum}
 use Rattle.spl_values.specs.declared.values.Value.{Value}
 use Rattle.cell_merge.specs.declared.spec.CellItem.{CellItem}
 use Rattle.cell_merge.specs.declared.spec.CellItem.TheVariants.{Count, Sum, Avg, Max, Min, TopK}

@@ -12,6 +12,17 @@ use crate::widths::{block_words, item_words};
 use crate::{CellItem, CellSpec, Entry};
 use spl_values::{Table, Value, encode, laws};
 
+/// The code of a row in a column, both counted from 0. Takes no memory.
+pub fn code_at(table: &Table, row: u32, column: u32) -> u128
+    requires row { row < table.now.shape.rows }
+    requires column { column < length table.now.shape.schema.columns }
+    ensures { result ≡ code column (row_in table.now row) }
+{
+    let _ = table.shape();
+    let found = table.column(column);
+    encode(&found.kind, table.value(row, column))
+}
+
 /// The code of a row in a column, both counted from 0; the column's codes have at most 64 bits. Takes no memory.
 pub fn code_word(table: &Table, row: u32, column: u32) -> u64
     requires row { row < table.now.shape.rows }

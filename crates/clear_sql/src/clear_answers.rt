@@ -9,11 +9,11 @@ ghost use Rattle.clear_sql.specs.AnswerText.{GroupFits};
 ghost use Rattle.clear_sql.specs.Clear.{SumsFit, clear};
 ghost use Rattle.clear_sql.specs.FirstRows.{first_matching};
 
-use crate::matching::{is_kept, some_branch_holds};
+use crate::matching::some_branch_holds;
 use crate::reading::cell_answer;
 use crate::{Answer, laws};
 use cell_merge::{cell_of_row, merge_into, width};
-use query_reader::{Checked, Params, laws as query_laws};
+use query_reader::{Checked, Params, is_kept, laws as query_laws};
 use spl_values::Table;
 use std::alloc::{AllocError, Global};
 

@@ -1,46 +1,10 @@
 //! Which rows of a table match a query.
 ghost use Rattle.std.specs.Prelude.{◌≡◌, ◌*◌, ◌<◌, All, [], ◌∷◌, true, length};
-ghost use Rattle.cell_merge.specs.Rows.{code as code_at};
 ghost use Rattle.cell_merge.specs.TableRows.{row_in};
-ghost use Rattle.query_reader.specs.Matching.{bound_holds as bound_test, branch_holds as branch_test, branch_params, is_kept as kept_test, some_branch_holds as branches_test};
+ghost use Rattle.query_reader.specs.Matching.{branch_holds as branch_test, branch_params, some_branch_holds as branches_test};
 
-use spl_values::{Table, encode};
-
-// The code of a row in a column, both counted from 0.
-fn code_in(table: &Table, row: u32, column: u32) -> u128
-    requires row { row < table.now.shape.rows }
-    requires column { column < length table.now.shape.schema.columns }
-    ensures { result ≡ code_at column (row_in table.now row) }
-{
-    let _ = table.shape();
-    let found = table.column(column);
-    encode(&found.kind, table.value(row, column))
-}
-
-// Whether a public condition holds of a row.
-fn bound_holds(table: &Table, row: u32, bound: &(u32, u128, u128)) -> bool
-    requires row { row < table.now.shape.rows }
-    requires column { bound.now.0 < length table.now.shape.schema.columns }
-    ensures { result ≡ bound_test (row_in table.now row) bound.now }
-{
-    let (column, least, greatest) = *bound;
-    let code = code_in(table, row, column);
-    least <= code && code <= greatest
-}
-
-/// Whether every public condition holds of a row, counted from 0.
-pub(crate) fn is_kept(bounds: &[(u32, u128, u128)], table: &Table, row: u32) -> bool
-    requires row { row < table.now.shape.rows }
-    requires columns { All (λ bound. bound.0 < length table.now.shape.schema.columns) bounds.now }
-    ensures { result ≡ kept_test bounds.now (row_in table.now row) }
-{
-    for bound in bounds {
-        if !bound_holds(table, row, bound) {
-            return false;
-        }
-    }
-    true
-}
+use cell_merge::code_at;
+use spl_values::Table;
 
 // Whether a range holds of a row, with the first two of these parameters.
 fn range_holds(column: u32, params: &[u128], table: &Table, row: u32) -> bool
@@ -48,7 +12,7 @@ fn range_holds(column: u32, params: &[u128], table: &Table, row: u32) -> bool
     requires column { column < length table.now.shape.schema.columns }
     ensures { result ≡ branch_test (column ∷ []) true params.now (row_in table.now row) }
 {
-    let code = code_in(table, row, column);
+    let code = code_at(table, row, column);
     match params {
         [least, greatest, ..] => *least <= code && code <= *greatest,
         _ => false,
@@ -70,7 +34,7 @@ fn branch_holds(columns: &[u32], range: bool, params: &[u128], table: &Table, ro
             match params {
                 [] => false,
                 [param, others @ ..] => {
-                    code_in(table, row, *column) == *param
+                    code_at(table, row, *column) == *param
                         && branch_holds(more, range, others, table, row)
                 }
             }

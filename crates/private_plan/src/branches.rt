@@ -12,7 +12,7 @@ use crate::columns::column_bits;
 use arrayvec::ArrayVec;
 use interval_keys::{Interval, normalise_intervals};
 use query_reader::{Checked, Params};
-use spl_values::Schema;
+use spl_values::{Schema, with_code};
 
 /// The numbers from one to another, or none where they are crossed.
 fn between(lo: u128, hi: u128) -> Option<Interval>
@@ -23,16 +23,6 @@ fn between(lo: u128, hi: u128) -> Option<Interval>
     } else {
         None
     }
-}
-
-/// A number with a code of so many bits behind it.
-fn with_code(key: u128, bits: u32, code: u128) -> u128
-    requires bits { bits ≤ 128 }
-    requires fits { key * 2 ^ bits + code < 2 ^ 128 }
-    ensures { result ≡ key * 2 ^ bits + code }
-{
-    // A code of 128 bits has no other before it.
-    key.checked_shl(bits).unwrap_or(0) + code
 }
 
 /// An interval of numbers of so many bits, with a code before each of them.

@@ -5,6 +5,7 @@ mod check;
 mod checked;
 mod columns;
 mod form;
+mod kept;
 pub mod laws;
 mod names;
 mod params;
@@ -13,6 +14,7 @@ mod uses;
 
 pub use check::check_query;
 pub use checked::{Bounds, Checked};
+pub use kept::is_kept;
 pub use params::{ParamFault, Params, params_of_codes, params_of_words};
 pub use query_parser::{
     Atom, Atoms, Branches, Item, Items, Literal, Public, Publics, Query, QueryFault, print_query,

@@ -1,7 +1,7 @@
 -- A text that reads as a shape is one that describes it.
-use Rattle.std.proofs.Common.{◌≡◌, ◌≢◌, ℕ, zero, suc, ◌+◌, ◌-◌, ◌^◌, ◌<◌, ◌≤◌, ◌==◌, Bool, true, false, ◌&&◌, ◌||◌, not, cond, nat_le, List, [], ◌∷◌, ◌++◌, length, take, drop, get_or, map, Option, Some, None, Result, Ok, Err, option_map, option_and_then, refl, sym, ap, subst, ◌∙◌, arith, IsTrue, codes, ◌⊎◌, inl, inr, append_assoc}
+use Rattle.std.proofs.Common.{◌≡◌, ℕ, suc, ◌+◌, ◌-◌, ◌^◌, ◌<◌, ◌≤◌, ◌==◌, Bool, true, false, ◌&&◌, ◌||◌, not, cond, nat_le, List, [], ◌∷◌, ◌++◌, length, take, drop, get_or, map, Option, Some, None, Result, Ok, Err, option_map, option_and_then, refl, sym, ap, subst, ◌∙◌, arith, codes, ◌⊎◌, inl, inr, append_assoc}
 use Rattle.std.specs.Fmt.{decimal}
-use Rattle.std.specs.List.{list_all, list_any, before_first, after_first, position_or_len, slice_split, join_with_byte}
+use Rattle.std.specs.List.{list_any, before_first, after_first, position_or_len, slice_split}
 use Rattle.std.specs.Option.{option_map_or}
 use Rattle.std.specs.Str.{bytes_eq}
 use Rattle.std.specs.Str.Lines.{lines}
@@ -14,9 +14,9 @@ use Rattle.std.proofs.lemmas.Slice.Eq.{bytes_eq-Decides}
 use Rattle.std.proofs.lemmas.Bool.Decides.{nat_tests}
 use Rattle.spl_values.specs.Names.{is_name}
 use Rattle.spl_values.specs.Kinds.{is_kind}
-use Rattle.spl_values.specs.Shapes.{ColumnParts, SchemaParts, ShapeParts}
+use Rattle.spl_values.specs.Shapes.{ColumnParts, ShapeParts}
 use Rattle.spl_values.specs.CellTexts.{is_number}
-use Rattle.spl_values.specs.ShapeTexts.{kind_word, kind_inside, kind_text, column_line, shape_lines, IsShapeText, after_prefix, between, plain_number, if_kind, if_name, if_rows, kind_of_text, column_of_line, added, result_and_then, table_of_line, rows_of_line, columns_of_lines, shape_of_lines, shape_of}
+use Rattle.spl_values.specs.ShapeTexts.{kind_word, kind_inside, kind_text, column_line, IsShapeText, after_prefix, between, plain_number, if_kind, if_name, if_rows, kind_of_text, column_of_line, added, result_and_then, table_of_line, rows_of_line, columns_of_lines, shape_of_lines, shape_of}
 use Rattle.spl_values.specs.declared.kinds.ColumnType.{ColumnType}
 use Rattle.spl_values.specs.declared.kinds.ColumnType.TheVariants.{Uint, Text, Enum}
 use Rattle.spl_values.specs.declared.shape_reader.ShapeFault.{ShapeFault}

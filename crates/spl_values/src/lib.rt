@@ -24,5 +24,5 @@ pub use lists::{Bytes, Labels, Name};
 pub use names::{is_label, is_name, is_name_byte, is_name_start, is_reserved};
 pub use shape_printer::print_shape;
 pub use shape_reader::{ShapeFault, read_shape};
-pub use tables::{Rows, Table, join_key};
+pub use tables::{Rows, Table, join_key, with_code};
 pub use values::{Value, ValueFault, decode, encode, fits};

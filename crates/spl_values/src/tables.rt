@@ -110,8 +110,8 @@ impl Table {
     }
 }
 
-// A number with a code of so many bits behind it.
-fn with_code(key: u128, bits: u32, code: u128) -> u128
+/// A number with a code of so many bits behind it. Takes no memory.
+pub fn with_code(key: u128, bits: u32, code: u128) -> u128
     requires bits { bits ≤ 128 }
     requires fits { key * 2 ^ bits + code < 2 ^ 128 }
     ensures { result ≡ key * 2 ^ bits + code }

@@ -1,6 +1,5 @@
 use Rattle.std.proofs.Common.{◌+◌, arith, rules}
 use Rattle.cell_merge.specs.declared.spec.CellItem.TheVariants.{Count}
-use Rattle.spl_words.specs.Words.{plus}
 use Rattle.cell_merge.proofs.Blocks.{block_all, block_first, block_step, items_width-add-one, items_width-nil, items_width-room}
 use Rattle.cell_merge.proofs.merge.merge_one.Goals as goal
 

@@ -1,4 +1,4 @@
-use Rattle.std.proofs.Common.{◌≡◌, ℕ, ◌+◌, ◌*◌, ◌<◌, ◌≤◌, ◌^◌, [], ◌∷◌, length, replicate, ap, sym, ◌∙◌, arith, rules}
+use Rattle.std.proofs.Common.{◌+◌, ◌*◌, ◌≤◌, [], ◌∷◌, length, replicate, ap, ◌∙◌, arith, rules}
 use Rattle.cell_merge.specs.Cells.{block, block_width}
 use Rattle.cell_merge.specs.TableRows.{adds_in, row_in}
 use Rattle.cell_merge.proofs.RowCells.{label_room, label_zeros, one_label}

@@ -1,4 +1,4 @@
-use Rattle.std.proofs.Common.{◌≡◌, ◌<◌, ◌^◌, ap, sym, ◌∙◌, arith, rules}
+use Rattle.std.proofs.Common.{◌≡◌, ◌<◌, ◌^◌, ap, sym, ◌∙◌, rules}
 use Rattle.spl_values.specs.Codes.{code_of}
 use Rattle.spl_values.specs.Shapes.{ColumnParts}
 use Rattle.cell_merge.proofs.RowCells.{code_below, code_in_row}

@@ -1,4 +1,4 @@
-use Rattle.std.proofs.Common.{◌≡◌, ◌+◌, ◌∷◌, [], arith, rules, sym}
+use Rattle.std.proofs.Common.{◌+◌, ◌∷◌, [], arith, rules}
 use Rattle.cell_merge.specs.declared.spec.CellItem.TheVariants.{Count}
 use Rattle.cell_merge.specs.TableRows.{adds_in, row_in}
 use Rattle.cell_merge.specs.Cells.{items_width}

@@ -1,4 +1,4 @@
-use Rattle.std.proofs.Common.{◌≡◌, ℕ, [], ◌∷◌, ap, sym, ◌∙◌, arith, inl, inr}
+use Rattle.std.proofs.Common.{ℕ, [], ◌∷◌, ap, sym, ◌∙◌, arith, inl, inr}
 use Rattle.cell_merge.specs.Rows.{code}
 use Rattle.cell_merge.specs.TableRows.{row_in}
 use Rattle.cell_merge.proofs.RowCells.{one_top, one_word, no_entry, greatest_of_one, least_of_one}

@@ -1,4 +1,4 @@
-use Rattle.std.proofs.Common.{◌≡◌, ◌+◌, ◌*◌, ◌<◌, ◌≤◌, ℕ, slice_index, refl, arith, ◌∙◌, sym, ap}
+use Rattle.std.proofs.Common.{◌≡◌, slice_index, refl, arith, ◌∙◌, sym, ap}
 use Rattle.cell_merge.proofs.Triples.{all_pushed, all_taken, more_pushed, none_pushed, one_taken, with_entry-other}
 use Rattle.cell_merge.specs.Triples.{triples}
 use Rattle.cell_merge.proofs.top.insert.Goals as goal

@@ -1,5 +1,5 @@
-use Rattle.std.proofs.Common.{◌≡◌, ◌+◌, ◌*◌, ◌<◌, ◌≤◌, ℕ, List, [], ◌++◌, ◌-◌, drop, length, replicate, slice_index, take, refl, arith, ◌∙◌, sym, ap}
-use Rattle.std.proofs.lemmas.List.{append-nil, length-drop, length-take-le, take_all}
+use Rattle.std.proofs.Common.{◌+◌, ◌*◌, [], ◌++◌, ◌-◌, drop, length, replicate, refl, arith, ◌∙◌, ap}
+use Rattle.std.proofs.lemmas.List.{length-drop, length-take-le}
 use Rattle.cell_merge.specs.Entries.{before, ordered, entries_of}
 use Rattle.cell_merge.specs.Triples.{triples}
 use Rattle.cell_merge.proofs.Triples.{entry_at-same}

@@ -2,7 +2,7 @@ use Rattle.std.proofs.Common.{◌≡◌, ◌+◌, ◌-◌, ◌*◌, ◌^◌, min
 use Rattle.std.proofs.lemmas.List.{take_all}
 use Rattle.cell_merge.specs.declared.spec.CellItem.TheVariants.{Count}
 use Rattle.cell_merge.specs.Cells.{items_width}
-use Rattle.cell_merge.proofs.Blocks.{items_width-add-one, items_width-nil, items_width-room, saturated}
+use Rattle.cell_merge.proofs.Blocks.{items_width-add-one, items_width-nil, saturated}
 use Rattle.cell_merge.proofs.widths.width.Goals as goal
 
 pub loop-item-init : goal.loop-item-init

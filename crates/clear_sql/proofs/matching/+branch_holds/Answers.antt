@@ -10,15 +10,15 @@ returns-in-empty n c = sym (at_none c.args.columns.now c.args.range c.args.param
 pub returns-in-empty-params : goal.returns-in-empty-params
 returns-in-empty-params n c = sym (at_end c.args.columns.now c.args.range c.args.params.now (row_in c.args.table.now c.args.row) c.in-len1-up.len_at_least c.in-empty-params.len_below)
 
-pub returns-then-code_in-param : goal.returns-then-code_in-param
-returns-then-code_in-param n c =
+pub returns-then-code_at-param : goal.returns-then-code_at-param
+returns-then-code_at-param n c =
     let last : c.args.range ≡ true → 1 ≤ length (tail_of c.args.columns.now) =
     λ r. elim c.else-range.branch [ else-range-via-then-range+else-is_empty w ↦ some_behind (length (tail_of c.args.columns.now)) w.if-is_empty.ensures | else-range-via-else-range w ↦ absurd cc ] in
     c.branch_holds.ensures
-    ∙ at_same c.args.columns.now c.args.range c.args.params.now (row_in c.args.table.now c.args.row) c.code_in.result c.in-len1-up.len_at_least c.in-len1-up-params.len_at_least last c.code_in.ensures c.if-code_in-param.true
+    ∙ at_same c.args.columns.now c.args.range c.args.params.now (row_in c.args.table.now c.args.row) c.code_at.result c.in-len1-up.len_at_least c.in-len1-up-params.len_at_least last c.code_at.ensures c.if-code_at-param.true
 
-pub returns-else-code_in-param : goal.returns-else-code_in-param
-returns-else-code_in-param n c =
+pub returns-else-code_at-param : goal.returns-else-code_at-param
+returns-else-code_at-param n c =
     let last : c.args.range ≡ true → 1 ≤ length (tail_of c.args.columns.now) =
     λ r. elim c.else-range.branch [ else-range-via-then-range+else-is_empty w ↦ some_behind (length (tail_of c.args.columns.now)) w.if-is_empty.ensures | else-range-via-else-range w ↦ absurd cc ] in
-    at_other c.args.columns.now c.args.range c.args.params.now (row_in c.args.table.now c.args.row) c.code_in.result c.in-len1-up.len_at_least c.in-len1-up-params.len_at_least last c.code_in.ensures c.if-code_in-param.false
+    at_other c.args.columns.now c.args.range c.args.params.now (row_in c.args.table.now c.args.row) c.code_at.result c.in-len1-up.len_at_least c.in-len1-up-params.len_at_least last c.code_at.ensures c.if-code_at-param.false

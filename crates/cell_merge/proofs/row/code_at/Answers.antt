@@ -2,7 +2,7 @@ use Rattle.std.proofs.Common.{◌≡◌, ap, sym, ◌∙◌}
 use Rattle.spl_values.specs.Codes.{code_of}
 use Rattle.spl_values.specs.Shapes.{ColumnParts}
 use Rattle.cell_merge.proofs.RowCells.{code_in_row}
-use Rattle.clear_sql.proofs.matching.code_in.Goals as goal
+use Rattle.cell_merge.proofs.row.code_at.Goals as goal
 
 pub returns : goal.returns
 returns c =
