@@ -33,7 +33,7 @@ fields_field =
     (((((((((tt, refl), refl), refl), refl), refl), refl), refl), wk.0), refl)
     (λ y e. λ i. record { session = e.0.0.0.0.1 i; round = e.0.0.0.0.0.0.1 i; provider = e.0.0.0.0.0.1 i; key = e.0.0.0.1 i; table = e.0.0.1 i; words = e.1 i })))))))))))
 
-length-spelling : (f : AnswerFrame) → Typed f → length (spelling f) ≡ 123 + 8 * length f.words
+pub length-spelling : (f : AnswerFrame) → Typed f → length (spelling f) ≡ 123 + 8 * length f.words
 length-spelling f t =
     let words = length_of_parts (to_be_bytes w64) 8 (λ w. refl) f.words in
     let count = to_be_bytes w32 (length f.words) in

@@ -1,5 +1,5 @@
 -- Whole notes are spelled so.
-use Rattle.std.proofs.Common.{◌≡◌, ℕ, zero, suc, ◌^◌, ◌<◌, ◌≤◌, Bool, true, ◌==◌, ◌||◌, List, [], ◌∷◌, ◌++◌, length, replicate, Result, Ok, Err, refl, sym, ap, subst, ◌∙◌, arith}
+use Rattle.std.proofs.Common.{◌≡◌, ℕ, zero, suc, ◌^◌, ◌<◌, ◌≤◌, true, List, [], ◌∷◌, ◌++◌, length, replicate, Result, Ok, Err, refl, sym, ap, subst, ◌∙◌, arith}
 use Rattle.std.specs.Prelude.{codes, IfOk}
 use Rattle.std.specs.List.{flat_map}
 use Rattle.std.specs.Int.{w8, w16, w128, to_be_bytes}
@@ -76,7 +76,7 @@ note_field =
     (((((((((((((tt, refl), refl), refl), refl), qk.0), refl), hk.0), refl), psk.0), refl), refl), refl), refl)
     (λ y e. λ i. record { session = e.0.0.0.0.0.0.0.0.0.1 i; round = e.0.0.0.0.0.0.0.0.0.0.1 i; query = e.0.0.0.0.0.0.0.1 i; shape = e.0.0.0.0.0.1 i; params = e.0.0.0.1 i; key_zero = e.0.0.1 i; key_one = e.0.1 i; table = e.1 i }))))))))))))))))
 
-length-note : (f : Note) → NoteFits f → length (sealed (note_body f)) ≤ 4194304
+pub length-note : (f : Note) → NoteFits f → length (sealed (note_body f)) ≤ 4194304
 unfolding note_body
 length-note f t =
     let params = length_of_parts (to_be_bytes w128) 16 (λ n. refl) f.params in

@@ -1,5 +1,5 @@
 -- The canonical text of a shape: it is read as that shape alone, and it is never too long for a frame.
-use Rattle.std.proofs.Common.{◌≡◌, ℕ, suc, ◌+◌, ◌*◌, ◌^◌, ◌<◌, ◌≤◌, Bool, true, false, cond, nat_le, ◌&&◌, List, [], ◌∷◌, ◌++◌, length, map, All, Some, None, Result, Ok, Err, refl, sym, ap, subst, ◌∙◌, arith, codes, length-append}
+use Rattle.std.proofs.Common.{◌≡◌, ℕ, ◌+◌, ◌*◌, ◌≤◌, Bool, true, false, cond, nat_le, ◌&&◌, List, [], ◌∷◌, ◌++◌, length, map, All, Some, None, Result, Ok, Err, refl, ap, ◌∙◌, arith, codes, length-append}
 use Rattle.std.specs.Fmt.{decimal}
 use Rattle.std.specs.List.{list_all, join_with_byte}
 use Rattle.std.specs.Str.{bytes_eq}
@@ -7,10 +7,10 @@ use Rattle.std.proofs.lemmas.Fmt.{length-decimal-le}
 use Rattle.std.proofs.lemmas.Bool.Decides.{nat_tests}
 use Rattle.std.proofs.lemmas.List.Elements.{All-head, All-tail}
 use Rattle.std.proofs.lemmas.Slice.Eq.{bytes_eq-Decides}
-use Rattle.spl_values.specs.Names.{is_name, is_label, is_label_byte, is_name_byte, is_name_start, is_reserved, is_distinct}
+use Rattle.spl_values.specs.Names.{is_name, is_label}
 use Rattle.spl_values.specs.Kinds.{is_kind}
 use Rattle.spl_values.specs.Shapes.{ColumnParts, ShapeParts, IsColumn, IsShape}
-use Rattle.spl_values.specs.ShapeTexts.{kind_text, column_line, shape_lines, text_of_lines, shape_text, shape_of}
+use Rattle.spl_values.specs.ShapeTexts.{kind_text, column_line, text_of_lines, shape_text, shape_of}
 use Rattle.spl_values.specs.declared.kinds.ColumnType.{ColumnType}
 use Rattle.spl_values.specs.declared.kinds.ColumnType.TheVariants.{Uint, Text, Enum}
 use Rattle.spl_values.specs.declared.shape_reader.ShapeFault.{ShapeFault}

@@ -1,5 +1,5 @@
 -- The one spelling of a key, and the keys that a frame may hold.
-use Rattle.std.specs.Prelude.{◌≡◌, ℕ, ◌<◌, ◌≤◌, ◌^◌, Bool, true, false, List, ◌++◌, length}
+use Rattle.std.specs.Prelude.{ℕ, ◌<◌, ◌≤◌, ◌^◌, Bool, true, false, List, ◌++◌, length}
 use Rattle.std.specs.List.{flat_map, AllByRecursion}
 use Rattle.std.specs.Int.{w8, w64, w128, to_be_bytes}
 use Rattle.seed_expansion.specs.declared.nodes.Correction.{Correction}

@@ -9,7 +9,9 @@ use std::marker::Model;
 /// A key of a tree, of either kind.
 #[derive(Debug, Drop)]
 pub enum Key {
+    /// The key of one number.
     Point(PointKey),
+    /// The key of all numbers up to one.
     Threshold(ThresholdKey),
 }
 

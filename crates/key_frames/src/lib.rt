@@ -16,7 +16,7 @@ mod note_writing;
 mod tests;
 mod texts;
 
-pub use frame::KeyFrame;
+pub use frame::{KeyFrame, frame_digest};
 pub use frame_reading::read_key_frame;
 pub use frame_writing::write_key_frame;
 pub use keys::{Key, Keys};
