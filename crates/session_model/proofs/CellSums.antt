@@ -87,7 +87,7 @@ count_groups : (g : Option ℕ) (labels : ℕ) (rows : List Row) → length (gro
 count_groups None labels rows = refl
 count_groups (Some c) labels rows = length-map (range_with_len 0 labels) (with_label c rows) ∙ length-range_with_len 0 labels
 
-length-cell : (adds : Addends) (spec : CellSpec) (rows : List Row) → length (cell adds spec rows) ≡ cell_width spec
+pub length-cell : (adds : Addends) (spec : CellSpec) (rows : List Row) → length (cell adds spec rows) ≡ cell_width spec
 length-cell adds spec rows =
     same_lengths (block adds spec.items) (block_width spec.items) (length-block adds spec.items) (groups spec.group spec.labels rows)
     ∙ ap (λ n. n * block_width spec.items) (count_groups spec.group spec.labels rows)

@@ -2,7 +2,9 @@
 ghost use Rattle.std.specs.Prelude.{◌≡◌, ℕ, ◌*◌, ◌%◌, ◌^◌, ◌<◌, Bool, true, List, [], ◌∷◌, length, sum_by, slice_index, if◌then◌else◌};
 ghost use Rattle.std.specs.List.{filter, list_all};
 ghost use Rattle.spl_words.specs.Words.{plus};
+ghost use Rattle.spl_words.specs.declared.provider.Provider.{Provider};
 ghost use Rattle.spl_words.specs.declared.provider.Provider.TheVariants.{Zero, One};
+ghost use Rattle.spl_words.specs.Secrets.{Secret};
 ghost use Rattle.spl_values.specs.Tables.{TableParts, IsTable};
 ghost use Rattle.seed_expansion.specs.Expanders.{Meaning, IsPure};
 ghost use Rattle.cell_merge.specs.Rows.{Row, Apart};
@@ -16,7 +18,8 @@ ghost use Rattle.query_reader.specs.Matching.{matching_rows};
 ghost use Rattle.query_reader.specs.Params.{AreParamsFor};
 ghost use Rattle.private_plan.specs.Plans.{is_sum};
 ghost use Rattle.private_plan.specs.Slots.{sum_secrets};
-ghost use Rattle.session_model.specs.Providers.{answer_word};
+ghost use Rattle.session_model.specs.Providers.{answer_word, shares_of};
+ghost use Rattle.session_model.specs.KeyLists.{key_list, key_shares};
 
 /// Where all items are counts, sums and means, the cell of the rows that pass a test is, word by word
 /// and modulo 2^64, the sum of the cells of the single rows that do.
@@ -33,4 +36,9 @@ pub fn answers_add_to_the_matching_cell()
         → IsCheckedFor checked table.shape.schema → IsQuery checked.query → AreParamsFor checked table.shape.schema params → list_all is_sum checked.spec.items ≡ true
         → length roots ≡ length (sum_secrets checked table.shape.schema.columns params) → (k : ℕ) → k < cell_width checked.spec
         → plus (answer_word e Zero checked params table roots k) (answer_word e One checked params table roots k) ≡ slice_index (cell (adds_in table.shape.schema.columns) checked.spec (matching_rows checked params table)) k % 2 ^ 64 }
+{}
+
+/// What a provider's shares under its keys of some secrets add to is what its shares of these secrets do.
+pub fn shares_of_keys_are_those_of_secrets()
+    ensures { (e : Meaning) (p : Provider) (tree : ℕ) (secrets : List Secret) (roots : List (ℕ × ℕ)) (x : ℕ) → key_shares e p tree (key_list e p tree secrets roots) x ≡ shares_of e p tree secrets roots x }
 {}
