@@ -1,0 +1,7 @@
+pub mod Faults
+pub mod Lines
+pub mod Layouts
+pub mod Bounds
+pub mod Asking
+pub mod Folds
+pub mod Answering

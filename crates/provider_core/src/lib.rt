@@ -1,0 +1,18 @@
+//! What a provider answers to a key frame over its table: the refusals in their order, and else the
+//! bytes of the answer frame, whatever the number of workers.
+#![tactic(auto)]
+
+mod answering;
+mod asked;
+mod bounds;
+mod fault;
+pub mod laws;
+mod layout;
+mod shapes;
+#[cfg(test)]
+mod tests;
+mod words;
+
+pub use answering::answer;
+pub use bounds::check_sums;
+pub use fault::ProviderFault;
