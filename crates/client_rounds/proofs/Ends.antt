@@ -1,0 +1,232 @@
+-- A session over one table ends with the clear answer.
+use Rattle.std.proofs.Common.{◌≡◌, ℕ, zero, suc, ◌+◌, ◌%◌, ◌^◌, ◌<◌, ◌≤◌, Bool, true, false, cond, List, [], ◌∷◌, length, drop, Option, None, Some, Result, Ok, Err, refl, sym, ap, subst, ◌∙◌, arith}
+use Rattle.std.specs.Prelude.{map, slice_index, nat_lt, ◌==◌}
+use Rattle.std.specs.List.{list_all, range_with_len}
+use Rattle.std.proofs.Math.Nat.{mod-lt, mod-eq_of_lt}
+use Rattle.std.proofs.lemmas.Bool.Decides.{nat_tests}
+use Rattle.std.proofs.lemmas.List.{length-map}
+use Rattle.std.proofs.lemmas.List.FromFn.{length-range_with_len}
+use Rattle.sha2.specs.Sha256.{sha256}
+use Rattle.sha2.proofs.Facts256.{length-sha256}
+use Rattle.spl_words.specs.declared.provider.Provider.{Provider}
+use Rattle.spl_words.specs.declared.provider.Provider.TheVariants.{Zero, One}
+use Rattle.spl_words.specs.Words.{plus}
+use Rattle.spl_values.specs.Shapes.{SchemaParts, ShapeParts}
+use Rattle.spl_values.specs.Tables.{TableParts, IsTable}
+use Rattle.csv_tables.specs.Writing.{digest_of}
+use Rattle.cell_merge.specs.Rows.{Row, Apart}
+use Rattle.cell_merge.specs.Cells.{cell, cell_width}
+use Rattle.cell_merge.specs.TableRows.{adds_in, rows_of}
+use Rattle.cell_merge.proofs.Labels.{Apart-filter}
+use Rattle.cell_merge.proofs.Lists.{length-filter-le}
+use Rattle.cell_merge.proofs.RowCells.{rows_apart}
+use Rattle.seed_expansion.specs.Expanders.{Meaning, IsPure}
+use Rattle.query_grammar.specs.Canonical.{IsQuery}
+use Rattle.query_grammar.specs.Queries.{QueryParts}
+use Rattle.query_tokens.specs.Printing.{IsWellFormed, canonical_text}
+use Rattle.query_reader.specs.declared.checked.Checked.{Checked}
+use Rattle.query_reader.specs.declared.params.ParamFault.{ParamFault}
+use Rattle.query_reader.specs.Accepted.{IsCheckedFor}
+use Rattle.query_reader.specs.Matching.{is_kept, matching_rows, kept_rows, some_branch_holds}
+use Rattle.query_reader.specs.Params.{AreParamsFor, params_of_words, count_fault, fault_or, marks_of}
+use Rattle.query_reader.proofs.Codes.{answered_known}
+use Rattle.query_reader.proofs.Known.{checked_fits, checked_width}
+use Rattle.judged_queries.specs.Queries.{checked_in}
+use Rattle.judged_queries.specs.Codes.{codes_in, codes_from}
+use Rattle.judged_queries.proofs.TakenCodes.{words_are_codes}
+use Rattle.clear_sql.specs.Clear.{SumsFit, clear}
+use Rattle.clear_sql.specs.AnswerText.{answer_text}
+use Rattle.clear_sql.proofs.MatchingCells.{matching_clear, length-rows_of}
+use Rattle.count_sum.specs.SumPairs.{sum_pairs}
+use Rattle.private_plan.specs.declared.plans.PlanKind.TheVariants as kind
+use Rattle.private_plan.specs.Plans.{is_sum, kind_for, kind_of, last_bits, plan_of}
+use Rattle.private_plan.specs.Slots.{sum_secrets}
+use Rattle.answer_frames.specs.declared.answer.AnswerFrame.{AnswerFrame}
+use Rattle.answer_frames.specs.Spelling.{AnswerOf}
+use Rattle.key_frames.specs.Notes.{NoteOf}
+use Rattle.session_model.specs.Draws.{wide, roots_of}
+use Rattle.session_model.specs.KeyLists.{key_list, key_shares}
+use Rattle.session_model.specs.Providers.{shares_of, weighted_word, answer_word}
+use Rattle.session_model.specs.Answers.{answer_words, answer_frame}
+use Rattle.session_model.specs.Sessions.{session_roots, key_frame, key_bytes, round_answer, note, note_bytes, clear_text}
+use Rattle.session_model.proofs.Answers.{answers_add}
+use Rattle.session_model.proofs.CellSums.{length-cell}
+use Rattle.session_model.proofs.KeyShares.{shares_same}
+use Rattle.combiner.specs.Combining.{added, combined}
+use Rattle.combiner.specs.Finals.{last_words, final_of}
+use Rattle.combiner.proofs.Adding.{combined_agreed, combined_either}
+use Rattle.combiner.proofs.Good.{cell_good, cell_alone}
+use Rattle.combiner.proofs.Sums.{block_fits, words_of_plan}
+use Rattle.client_rounds.specs.declared.faults.Source.TheVariants as source
+use Rattle.client_rounds.specs.declared.judging.Judged.{Judged}
+use Rattle.client_rounds.specs.Asked.{IsAsked}
+use Rattle.client_rounds.specs.Finishing.{finished, note_in, result_of}
+use Rattle.client_rounds.proofs.CellWords.{cell_small, word_small, each_small, added-map, listed}
+use Rattle.client_rounds.proofs.Read.{note_read, answer_read, note_judged, result_is, finished_is, final_is}
+use Rattle.client_rounds.proofs.Spelled.{AreWords, note_spelled, sha256_small}
+
+-- ---- parameters
+
+passed : (over same : Bool) (marks had : ℕ) (a b : ParamFault) (r : Result (List ℕ) ParamFault) (codes : List ℕ) → nat_lt 255 marks ≡ over → (marks == had) ≡ same
+    → fault_or (cond over (Some a) (cond same None (Some b))) r ≡ Ok codes → had ≤ 255
+passed true same marks had a b r codes o s e = absurd cc
+passed false true marks had a b r codes o s e = grind (arith, nat_tests, o, s)
+passed false false marks had a b r codes o s e = absurd cc
+
+few_codes : (q : QueryParts) (schema : SchemaParts) (codes params : List ℕ) → codes_in q schema codes ≡ Ok params → length codes ≤ 255
+few_codes q schema codes params e =
+    let marks = length (marks_of schema q.branches) in
+    passed (nat_lt 255 marks) (marks == length codes) marks (length codes) _ _ (codes_from 0 schema (marks_of schema q.branches) codes) params refl refl e
+
+-- ---- plans
+
+pub kind_of_sums : (sums range : Bool) (w : ℕ) → sums ≡ true → kind_for sums range w ≡ kind.Sum
+kind_of_sums true range w e = refl
+kind_of_sums false range w e = absurd cc
+
+-- ---- roots
+
+pub length-roots_of : (n : ℕ) (words : List ℕ) → length (roots_of n words) ≡ n
+unfolding roots_of
+length-roots_of zero words = refl
+length-roots_of (suc n) words = let more = length-roots_of n (drop 4 words) in omega arith
+
+-- ---- answers
+
+module _ (e : Meaning) (checked : Checked) (table : TableParts) (params drawn : List ℕ) where
+  -- the words that a provider answers are those of its own shares
+  own_words : (p : Provider) (roots : List (ℕ × ℕ)) → answer_words e p checked (key_list e p 0 (sum_secrets checked table.shape.schema.columns params) roots) table
+      ≡ map (answer_word e p checked params table roots) (range_with_len 0 (cell_width checked.spec))
+  own_words p roots =
+      ap (λ (f : ℕ → ℕ). map (λ k. weighted_word f k (sum_pairs checked table)) (range_with_len 0 (cell_width checked.spec)))
+      (λ i x. shares_same e p 0 (sum_secrets checked table.shape.schema.columns params) roots x i)
+
+  pub length-answer : (p : Provider) → length (answer_frame e p (key_bytes e p checked table.shape params drawn) (key_frame e p checked table.shape params drawn) checked table).words ≡ cell_width checked.spec
+  length-answer p = length-map (range_with_len 0 (cell_width checked.spec)) _ ∙ length-range_with_len 0 (cell_width checked.spec)
+
+  pub answer_spelled : (p : Provider) → IsTable table → IsCheckedFor checked table.shape.schema → wide drawn < 2 ^ 128
+      → AnswerOf (round_answer e p checked table params drawn) (answer_frame e p (key_bytes e p checked table.shape params drawn) (key_frame e p checked table.shape params drawn) checked table)
+  answer_spelled p valid accepted small =
+      let frame = key_frame e p checked table.shape params drawn in
+      let f = λ (k : ℕ). weighted_word (key_shares e p 0 frame.keys) k (sum_pairs checked table) in
+      let some = block_fits checked.spec table.shape.schema.columns valid.shape.schema.columns (checked_fits checked table.shape.schema accepted) in
+      let most = checked_width checked table.shape.schema accepted in
+      let count = length-answer p in
+      record {
+        allowed = record { round = omega arith; round_end = omega arith; some = omega (arith, some, count); count = omega (arith, most, count) };
+        typed = record {
+          session = small;
+          key = (length-sha256 (key_bytes e p checked table.shape params drawn), sha256_small (key_bytes e p checked table.shape params drawn));
+          table = (length-sha256 _, sha256_small _);
+          words = each_small f (λ k. omega arith) (range_with_len 0 (cell_width checked.spec));
+        };
+        spelled = refl;
+      }
+
+-- ---- the rows that match
+
+apart_rows : (checked : Checked) (params : List ℕ) (table : TableParts) → Apart (matching_rows checked params table)
+apart_rows checked params table =
+    Apart-filter (some_branch_holds checked.branches checked.columns checked.range params) (kept_rows checked table) (Apart-filter (is_kept checked.public) (rows_of table) (rows_apart table))
+
+few_rows : (checked : Checked) (params : List ℕ) (table : TableParts) → IsTable table → length (matching_rows checked params table) ≤ table.shape.rows
+few_rows checked params table valid =
+    let matching = length-filter-le (some_branch_holds checked.branches checked.columns checked.range params) (kept_rows checked table) in
+    let kept = length-filter-le (is_kept checked.public) (rows_of table) in
+    omega (arith, matching, kept, length-rows_of table, valid.count)
+
+-- ---- notes
+
+-- the note of a session whose words are words
+pub note_made : (e : Meaning) (checked : Checked) (table : TableParts) (params drawn : List ℕ) (texts : List (List ℕ)) → IsTable table → IsWellFormed checked.query → IsCheckedFor checked table.shape.schema
+    → params_of_words checked.query table.shape.schema texts ≡ Ok params → AreWords drawn → NoteOf (note_bytes e checked table.shape params drawn) (note e checked table.shape params drawn)
+note_made e checked table params drawn texts valid form accepted given are =
+    let known = answered_known checked table.shape.schema texts (Ok params) form.form valid.shape.schema given accepted in
+    let codes = words_are_codes checked.query table.shape.schema texts params valid.shape.schema given in
+    let asked : IsAsked checked table.shape params = record { valid = valid.shape; form = form; accepted = accepted; known = known } in
+    note_spelled e checked table.shape params drawn asked (few_codes checked.query table.shape.schema params params codes) are
+
+-- ---- the end
+
+module _ (e : Meaning) (pure : IsPure e) (checked : Checked) (table : TableParts) (params drawn : List ℕ) (texts : List (List ℕ)) (valid : IsTable table) (form : IsWellFormed checked.query)
+    (accepted : IsCheckedFor checked table.shape.schema) (sums : list_all is_sum checked.spec.items ≡ true) (given : params_of_words checked.query table.shape.schema texts ≡ Ok params)
+    (bounds : SumsFit table.shape.schema.columns checked.spec.items (rows_of table)) (spelled : NoteOf (note_bytes e checked table.shape params drawn) (note e checked table.shape params drawn)) (canonical : checked_in table.shape.schema (canonical_text checked.query) ≡ Ok checked) where
+  known : AreParamsFor checked table.shape.schema params
+  known = answered_known checked table.shape.schema texts (Ok params) form.form valid.shape.schema given accepted
+
+  codes : codes_in checked.query table.shape.schema params ≡ Ok params
+  codes = words_are_codes checked.query table.shape.schema texts params valid.shape.schema given
+
+  -- the words of both answers add to the cell of the rows that match
+  words_add : added (answer_frame e Zero (key_bytes e Zero checked table.shape params drawn) (key_frame e Zero checked table.shape params drawn) checked table).words
+      (answer_frame e One (key_bytes e One checked table.shape params drawn) (key_frame e One checked table.shape params drawn) checked table).words
+      ≡ cell (adds_in table.shape.schema.columns) checked.spec (matching_rows checked params table)
+  words_add =
+      let columns = table.shape.schema.columns in
+      let roots = session_roots (sum_secrets checked columns params) drawn in
+      let w = cell_width checked.spec in
+      let f = answer_word e Zero checked params table roots in
+      let g = answer_word e One checked params table roots in
+      let rows = matching_rows checked params table in
+      let all = cell (adds_in columns) checked.spec rows in
+      let wide_enough : length all ≡ w = length-cell (adds_in columns) checked.spec rows in
+      let small = cell_small (adds_in columns) checked.spec rows sums (omega (arith, few_rows checked params table valid, valid.shape.few)) in
+      let same = length-roots_of (length (sum_secrets checked columns params)) (drop 2 drawn) in
+      let each : (k : ℕ) → k < length all → plus (f (0 + k)) (g (0 + k)) ≡ slice_index all k =
+      λ k here.
+      let start : 0 + k ≡ k = omega arith in
+      ap (λ (i : ℕ). plus (f i) (g i)) start
+      ∙ answers_add e pure checked table params roots valid accepted form.form known sums same k (omega (arith, here, wide_enough))
+      ∙ mod-eq_of_lt (word_small all k small here) in
+      rw (own_words e checked table params drawn Zero roots, own_words e checked table params drawn One roots, added-map f g (range_with_len 0 w), sym wide_enough) (listed (λ k. plus (f k) (g k)) 0 all each)
+
+  -- what the note says
+  abbrev judged : Judged
+  judged = record { note = note e checked table.shape params drawn; checked = checked; params = params; plan = plan_of checked table.shape }
+
+  -- what a provider answers
+  abbrev answer_by : Provider → AnswerFrame
+  answer_by p = answer_frame e p (key_bytes e p checked table.shape params drawn) (key_frame e p checked table.shape params drawn) checked table
+
+  note_is : note_in (note_bytes e checked table.shape params drawn) ≡ Ok judged
+  note_is =
+      let read = note_read (note_bytes e checked table.shape params drawn) (note e checked table.shape params drawn) spelled in
+      let built = kind_of_sums (list_all is_sum checked.spec.items) checked.range (last_bits table.shape.schema.columns checked.columns) sums in
+      note_judged (note_bytes e checked table.shape params drawn) (note e checked table.shape params drawn) checked params read canonical built codes
+
+  both_are : combined (note e checked table.shape params drawn) (answer_by Zero) (answer_by One) (last_words (plan_of checked table.shape)) ≡ Ok (cell (adds_in table.shape.schema.columns) checked.spec (matching_rows checked params table))
+  both_are =
+      let built = kind_of_sums (list_all is_sum checked.spec.items) checked.range (last_bits table.shape.schema.columns checked.columns) sums in
+      let n = words_of_plan checked table.shape built in
+      combined_agreed (note e checked table.shape params drawn) (answer_by Zero) (answer_by One) (last_words (plan_of checked table.shape)) refl refl refl refl refl refl refl refl
+      (n ∙ sym (length-answer e checked table params drawn Zero)) (n ∙ sym (length-answer e checked table params drawn One)) refl refl
+      ∙ ap (λ (words : List ℕ). Ok words) words_add
+
+  final_are : final_of checked table.shape (cell (adds_in table.shape.schema.columns) checked.spec (matching_rows checked params table)) ≡ Ok (clear table.shape.schema.columns checked.spec (matching_rows checked params table))
+  final_are =
+      let rows = matching_rows checked params table in
+      let few = few_rows checked params table valid in
+      final_is checked table.shape (cell (adds_in table.shape.schema.columns) checked.spec rows) (clear table.shape.schema.columns checked.spec rows)
+      (cell_good (adds_in table.shape.schema.columns) checked.spec rows table.shape.rows few)
+      (cell_alone (adds_in table.shape.schema.columns) checked.spec rows (apart_rows checked params table) (omega (arith, few, valid.shape.few)))
+      (matching_clear checked params table bounds)
+
+  text_is : (a b : AnswerFrame) → combined (note e checked table.shape params drawn) a b (last_words (plan_of checked table.shape)) ≡ Ok (cell (adds_in table.shape.schema.columns) checked.spec (matching_rows checked params table))
+      → result_of judged a b ≡ Ok (clear_text checked params table)
+  unfolding clear_text
+  text_is a b both =
+      result_is judged a b (cell (adds_in table.shape.schema.columns) checked.spec (matching_rows checked params table)) (clear table.shape.schema.columns checked.spec (matching_rows checked params table)) both final_are
+
+  pub ends : finished (note_bytes e checked table.shape params drawn) (round_answer e Zero checked table params drawn) (round_answer e One checked table params drawn) ≡ Ok (clear_text checked params table)
+  ends =
+      finished_is (note_bytes e checked table.shape params drawn) (round_answer e Zero checked table params drawn) (round_answer e One checked table params drawn) judged (answer_by Zero) (answer_by One) (clear_text checked params table)
+      note_is (answer_read source.First (round_answer e Zero checked table params drawn) (answer_by Zero) (answer_spelled e checked table params drawn Zero valid accepted spelled.typed.session))
+      (answer_read source.Second (round_answer e One checked table params drawn) (answer_by One) (answer_spelled e checked table params drawn One valid accepted spelled.typed.session))
+      (text_is (answer_by Zero) (answer_by One) both_are)
+
+  pub ends_exchanged : finished (note_bytes e checked table.shape params drawn) (round_answer e One checked table params drawn) (round_answer e Zero checked table params drawn) ≡ Ok (clear_text checked params table)
+  ends_exchanged =
+      finished_is (note_bytes e checked table.shape params drawn) (round_answer e One checked table params drawn) (round_answer e Zero checked table params drawn) judged (answer_by One) (answer_by Zero) (clear_text checked params table)
+      note_is (answer_read source.First (round_answer e One checked table params drawn) (answer_by One) (answer_spelled e checked table params drawn One valid accepted spelled.typed.session))
+      (answer_read source.Second (round_answer e Zero checked table params drawn) (answer_by Zero) (answer_spelled e checked table params drawn Zero valid accepted spelled.typed.session))
+      (text_is (answer_by One) (answer_by Zero) (combined_either (note e checked table.shape params drawn) (answer_by One) (answer_by Zero) (last_words (plan_of checked table.shape)) ∙ both_are))

@@ -1,0 +1,14 @@
+pub mod Drawing
+pub mod KeyLoop
+pub mod Printable
+pub mod Trees
+pub mod Allowed
+pub mod Written
+pub mod Seeds
+pub mod Spelled
+pub mod Begun
+pub mod NoteSteps
+pub mod CellWords
+pub mod Read
+pub mod Ends
+pub mod ParamCounts

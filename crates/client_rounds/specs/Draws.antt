@@ -1,0 +1,11 @@
+-- What is made of the words that are drawn.
+use Rattle.std.specs.Prelude.{◌≡◌, ℕ, ◌≤◌, List, drop, Option, Some, Result, Ok, Err}
+
+-- at most so many of the words were taken, from the front
+abbrev pub LeftAfter : ℕ → List ℕ → Option (List ℕ) → Type 0
+LeftAfter most words left = (k : ℕ) × ((k ≤ most) × (left ≡ Some (drop k words)))
+
+-- so many of the words were taken, and the value is one that they make; after a refusal no more were
+abbrev pub Draws : {A E : Type 0} → ℕ → (List ℕ → A → Type 0) → List ℕ → Option (List ℕ) → Result A E → Type 0
+Draws count Made words left (Ok x) = Made words x × (left ≡ Some (drop count words))
+Draws count Made words left (Err e) = LeftAfter count words left
