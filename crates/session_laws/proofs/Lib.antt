@@ -1,0 +1,4 @@
+mod Frames
+mod Layouts
+mod Answered
+mod Ended
