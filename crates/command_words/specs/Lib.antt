@@ -1,0 +1,4 @@
+pub mod Orders
+pub mod Arguments
+pub mod Forms
+pub mod Views
