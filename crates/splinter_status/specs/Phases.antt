@@ -5,6 +5,7 @@ use Rattle.spl_values.specs.declared.shape_reader.ShapeFault.TheVariants as shap
 use Rattle.query_parser.specs.declared.fault.QueryFault.TheVariants as query
 use Rattle.query_reader.specs.declared.params.ParamFault.TheVariants as param
 use Rattle.csv_tables.specs.declared.fault.TableFault.TheVariants as table
+use Rattle.spl_words.specs.declared.fault.FrameFault.TheVariants as frame
 use Rattle.splinter_status.specs.declared.stops.InputStop.{InputStop}
 use Rattle.splinter_status.specs.declared.stops.InputStop.TheVariants as input
 use Rattle.splinter_status.specs.declared.status.Part.TheVariants as part
@@ -37,17 +38,17 @@ Gives view (Err (input.Refused r)) step = step ≡ Err r
 Gives view (Err input.FileFault) step = Unit {0}
 Gives view (Err input.OutOfMemory) step = Unit {0}
 
--- a refusal of what files hold: the words form a command, no fault in it is want of memory, and of all parts only a query can have a form that isn't built
+-- a refusal of what files hold: the words form a command, no fault in it is want of memory, and of all parts only a query and a plan can have a form that isn't built
 abbrev pub IsOfFiles : Refusal → Type 0
 IsOfFiles refusal.Usage = ⊥
 IsOfFiles (refusal.Query query.OutOfMemory) = ⊥
 IsOfFiles (refusal.Param param.OutOfMemory) = ⊥
 IsOfFiles (refusal.Shape shape.OutOfMemory) = ⊥
 IsOfFiles (refusal.Table table.OutOfMemory) = ⊥
+IsOfFiles (refusal.Frame name frame.OutOfMemory) = ⊥
 IsOfFiles (refusal.NotBuilt part.Table) = ⊥
 IsOfFiles (refusal.NotBuilt part.Shape) = ⊥
 IsOfFiles (refusal.NotBuilt part.Parameter) = ⊥
-IsOfFiles (refusal.NotBuilt part.Plan) = ⊥
 IsOfFiles _ = Unit {0}
 
 -- a refusal here is one of what files hold

@@ -3,6 +3,7 @@
 #![tactic(auto)]
 
 mod convert;
+mod frame_texts;
 mod report;
 mod status;
 mod stops;

@@ -2,6 +2,8 @@
 use csv_tables::TableFault;
 use query_reader::{ParamFault, QueryFault};
 use spl_values::{Name, ShapeFault};
+use spl_words::{Differ, FrameFault, Provider};
+use sum_bounds::AtRow;
 
 /// A part of the tool.
 #[derive(Clone, Copy, Debug, PartialEq, Eq)]
@@ -28,6 +30,14 @@ pub enum Status {
     Shape(ShapeFault),
     /// The table's file has no table of the shape.
     Table(TableFault),
+    /// The sum of the column of this number reaches 2^64 at a row.
+    SumBound(u32, AtRow),
+    /// The file of this name holds no frame.
+    Frame(Name, FrameFault),
+    /// Two things that have to agree don't.
+    Differ(Differ),
+    /// The combined word of this number has this value, which isn't good.
+    BadWord(u32, u64),
     /// No file has this name.
     MissingFile(Name),
     /// The files failed.
@@ -40,6 +50,8 @@ pub enum Status {
     OutOfMemory,
     /// The file of this name is longer than is read.
     FileTooLong(Name),
+    /// Both answers are of this provider.
+    SameProvider(Provider),
     /// This part has a form that isn't built yet.
     NotBuilt(Part),
 }

@@ -4,6 +4,8 @@ use crate::status::Part;
 use csv_tables::TableFault;
 use query_reader::{ParamFault, QueryFault};
 use spl_values::{Name, ShapeFault};
+use spl_words::{Differ, FrameFault, Provider};
+use sum_bounds::AtRow;
 
 /// Why a file was not read.
 #[derive(Debug, Drop)]
@@ -22,8 +24,17 @@ pub enum Refusal {
     Param(ParamFault),
     Shape(ShapeFault),
     Table(TableFault),
+    /// The sum of the column of this name and number is too large.
+    SumBound(Name, u32, AtRow),
+    /// The file of this name holds no frame.
+    Frame(Name, FrameFault),
+    Differ(Differ),
+    /// The combined word of this number isn't good.
+    BadWord(u32, u64),
     MissingFile(Name),
     FileTooLong(Name),
+    /// Both answers are of this provider.
+    SameProvider(Provider),
     NotBuilt(Part),
 }
 
@@ -40,5 +51,7 @@ pub enum InputStop {
 pub enum Stopped {
     Input(InputStop),
     DrawFault,
+    /// A file couldn't be written.
+    FileFault,
     OutOfMemory,
 }

@@ -4,7 +4,9 @@ use csv_tables::TableFault;
 use query_reader::{ParamFault, QueryFault};
 use spl_outside::{MemorySink, SteadySink};
 use spl_values::{Name, ShapeFault, ValueFault};
+use spl_words::{Differ, FrameFault, Provider};
 use std::alloc::{AllocError, Global};
+use sum_bounds::AtRow;
 
 /// The status has this number and this text.
 fn says(alloc: Global, status: &Status, number: u8, text: &str) -> Result<bool, AllocError> {
@@ -108,6 +110,59 @@ fn says_the_faults_of_tables(rt: HostRuntime) -> Result<(), AllocError> {
 }
 
 #[test]
+fn says_the_faults_of_frames(rt: HostRuntime) -> Result<(), AllocError> {
+    let alloc = rt.alloc();
+    for (fault, text) in [
+        (FrameFault::Short(5, 4), "frame n: short, needed 5, had 4"),
+        (FrameFault::BadMagic, "frame n: bad magic"),
+        (FrameFault::BadVersion(2), "frame n: bad version 2"),
+        (FrameFault::BadField(6), "frame n: bad field at 6"),
+        (FrameFault::TooLarge, "frame n: too large"),
+        (FrameFault::Trailing(147), "frame n: trailing at 147"),
+        (
+            FrameFault::BadDigest([0x0a; 32], [0xf0; 32]),
+            "frame n: bad digest 0a0a0a0a0a0a0a0a0a0a0a0a0a0a0a0a0a0a0a0a0a0a0a0a0a0a0a0a0a0a0a0a f0f0f0f0f0f0f0f0f0f0f0f0f0f0f0f0f0f0f0f0f0f0f0f0f0f0f0f0f0f0f0f0",
+        ),
+    ] {
+        let status = Status::Frame(name_of(alloc, "n")?, fault);
+        assert!(rt; says(alloc, &status, 8, text)?, "{text}");
+    }
+    Ok(())
+}
+
+#[test]
+fn says_where_two_things_differ(rt: HostRuntime) -> Result<(), AllocError> {
+    for (which, text) in [
+        (
+            Differ::Session(1, 0xab << 120),
+            "differ: session 00000000000000000000000000000001 ab000000000000000000000000000000",
+        ),
+        (Differ::Round(1, 2), "differ: round 1 2"),
+        (
+            Differ::Provider(Provider::One, Provider::Zero),
+            "differ: provider 1 0",
+        ),
+        (
+            Differ::Key(Provider::One, [0x01; 32], [0x02; 32]),
+            "differ: key 1 0101010101010101010101010101010101010101010101010101010101010101 0202020202020202020202020202020202020202020202020202020202020202",
+        ),
+        (
+            Differ::Table([0xcd; 32], [0xef; 32]),
+            "differ: table cdcdcdcdcdcdcdcdcdcdcdcdcdcdcdcdcdcdcdcdcdcdcdcdcdcdcdcdcdcdcdcd efefefefefefefefefefefefefefefefefefefefefefefefefefefefefefefef",
+        ),
+        (Differ::Words(1, 2), "differ: words 1 2"),
+        (Differ::ShapeLine(2), "differ: shape line 2"),
+        (Differ::Layout(0), "differ: layout key 0"),
+    ] {
+        assert!(rt;
+            says(rt.alloc(), &Status::Differ(which), 9, text)?,
+            "{text}"
+        );
+    }
+    Ok(())
+}
+
+#[test]
 fn says_the_parts(rt: HostRuntime) -> Result<(), AllocError> {
     for (part, text) in [
         (Part::Table, "not built: table"),
@@ -134,8 +189,16 @@ fn says_the_other_statuses(rt: HostRuntime) -> Result<(), AllocError> {
     assert!(rt; says(alloc, &Status::MissingFile(name), 11, "no file t.csv")?);
     let name = name_of(alloc, "t.csv")?;
     assert!(rt; says(alloc, &Status::FileTooLong(name), 21, "file too long t.csv")?);
+    assert!(rt; says(alloc, &Status::BadWord(3, 9), 10, "word 3: 9")?);
+    let same = Status::SameProvider(Provider::One);
+    assert!(rt; says(alloc, &same, 22, "same provider 1")?);
+    let over = AtRow {
+        row: 1,
+        sum: 1 << 64,
+    };
     for (status, number) in [
         (Status::Done, 0),
+        (Status::SumBound(3, over), 7),
         (Status::OutputFault, 13),
         (Status::OutOfMemory, 20),
     ] {
@@ -154,6 +217,19 @@ fn prints_and_refuses(rt: HostRuntime) -> Result<(), AllocError> {
     let usage = Stopped::Input(InputStop::Refused(Refusal::Usage));
     assert_eq!(rt; number_of(&refuse(alloc, &mut out, usage)), 2);
     assert!(rt; out.bytes() == b"COUNT(*) 2\nsplinter: usage\n".as_slice());
+    let mut out = SteadySink::new(alloc);
+    let at = AtRow {
+        row: 1,
+        sum: 1 << 64,
+    };
+    let sum = Refusal::SumBound(name_of(alloc, "price")?, 3, at);
+    let sum = Stopped::Input(InputStop::Refused(sum));
+    assert_eq!(rt; number_of(&refuse(alloc, &mut out, sum)), 7);
+    let late = refuse(alloc, &mut out, Stopped::FileFault);
+    assert_eq!(rt; number_of(&late), 12);
+    let lines =
+        b"splinter: sum: column price, row 1, sum 18446744073709551616\nsplinter: file fault\n";
+    assert!(rt; out.bytes() == lines.as_slice());
     let mut out = MemorySink::new(alloc, vec![in alloc; 1]?);
     assert_eq!(rt; number_of(&refuse(alloc, &mut out, Stopped::DrawFault)), 13);
     assert!(rt; out.bytes() == b"".as_slice());

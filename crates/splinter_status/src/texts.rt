@@ -1,13 +1,16 @@
 //! The lines and the numbers of statuses.
-ghost use Rattle.std.specs.Prelude.{◌≡◌, IfOk};
+ghost use Rattle.std.specs.Prelude.{◌≡◌, ◌++◌, codes, IfOk};
 ghost use Rattle.std.specs.String.{string_bytes};
-ghost use Rattle.splinter_status.specs.Texts.{line_of, part_text, query_fault_text, param_fault_text, shape_fault_text, value_fault_text, table_fault_text, status_number};
+ghost use Rattle.splinter_status.specs.Texts.{line, line_of, sum_text, part_text, query_fault_text, param_fault_text, shape_fault_text, value_fault_text, table_fault_text, frame_fault_text, status_text, status_number};
 
+use crate::frame_texts::{differ, frame_fault, provider_digit};
 use crate::status::{Part, Status};
 use csv_tables::TableFault;
 use query_reader::{ParamFault, QueryFault};
-use spl_values::{ShapeFault, ValueFault};
+use spl_values::{Name, ShapeFault, ValueFault};
+use spl_words::FrameFault;
 use std::alloc::{AllocError, Global};
+use sum_bounds::AtRow;
 
 fn part_name(part: Part) -> &'static str
     ensures { result.now ≡ part_text part }
@@ -104,48 +107,84 @@ fn table_fault(alloc: Global, fault: TableFault) -> Result<String, AllocError>
     }
 }
 
-/// The line of a status; empty where it has none.
+/// A text behind its label.
+fn labelled(alloc: Global, label: &str, text: &str) -> Result<String, AllocError>
+    ensures { IfOk result (λ t. string_bytes t ≡ label.now ++ text.now) }
+{
+    format!(in alloc; "{label}{text}")
+}
+
+/// Why the file of this name holds no frame.
+fn frame(alloc: Global, name: &Name, fault: &FrameFault) -> Result<String, AllocError>
+    ensures { IfOk result (λ t. string_bytes t ≡ codes "frame " ++ (name.now ++ (codes ": " ++ frame_fault_text fault.now))) }
+{
+    let name = name.as_str();
+    let what = frame_fault(alloc, fault)?;
+    let what = what.as_str();
+    format!(in alloc; "frame {name}: {what}")
+}
+
+/// What a status says.
+fn text(alloc: Global, status: &Status) -> Result<String, AllocError>
+    ensures { IfOk result (λ t. string_bytes t ≡ status_text status.now) }
+{
+    match status {
+        Status::Done | Status::OutputFault | Status::OutOfMemory => Ok(String::new(alloc)),
+        Status::Usage => String::from_str(alloc, "usage"),
+        Status::Query(fault) => labelled(alloc, "query: ", query_fault(alloc, fault)?.as_str()),
+        Status::Param(fault) => labelled(alloc, "parameter", param_fault(alloc, fault)?.as_str()),
+        Status::Shape(fault) => labelled(alloc, "shape: ", shape_fault(alloc, *fault)?.as_str()),
+        Status::Table(fault) => labelled(alloc, "table: ", table_fault(alloc, *fault)?.as_str()),
+        // The name of the column isn't known here.
+        Status::SumBound(_, _) => Ok(String::new(alloc)),
+        Status::Frame(name, fault) => frame(alloc, name, fault),
+        Status::Differ(which) => labelled(alloc, "differ: ", differ(alloc, which)?.as_str()),
+        Status::BadWord(number, word) => format!(in alloc; "word {number}: {word}"),
+        Status::MissingFile(name) => labelled(alloc, "no file ", name.as_str()),
+        Status::FileFault => String::from_str(alloc, "file fault"),
+        Status::DrawFault => String::from_str(alloc, "draw fault"),
+        Status::FileTooLong(name) => labelled(alloc, "file too long ", name.as_str()),
+        Status::SameProvider(provider) => {
+            labelled(alloc, "same provider ", provider_digit(*provider))
+        }
+        Status::NotBuilt(part) => labelled(alloc, "not built: ", part_name(*part)),
+    }
+}
+
+/// Where the sum of the column of this name is too large.
+fn sum(alloc: Global, name: &Name, at: AtRow) -> Result<String, AllocError>
+    ensures { IfOk result (λ t. string_bytes t ≡ sum_text name.now at) }
+{
+    let name = name.as_str();
+    let row = at.row;
+    let sum = at.sum;
+    format!(in alloc; "sum: column {name}, row {row}, sum {sum}")
+}
+
+/// A text as a line of the program.
+fn line_of_text(alloc: Global, text: &str) -> Result<String, AllocError>
+    ensures { IfOk result (λ t. string_bytes t ≡ line text.now) }
+{
+    format!(in alloc; "splinter: {text}\n")
+}
+
+/// The line that a status tells; empty where it tells none.
 pub fn line(alloc: Global, status: &Status) -> Result<String, AllocError>
     ensures { IfOk result (λ t. string_bytes t ≡ line_of status.now) }
 {
     match status {
-        Status::Done | Status::OutputFault | Status::OutOfMemory => Ok(String::new(alloc)),
-        Status::Usage => format!(in alloc; "splinter: usage\n"),
-        Status::Query(fault) => {
-            let what = query_fault(alloc, fault)?;
-            let what = what.as_str();
-            format!(in alloc; "splinter: query: {what}\n")
+        Status::Done | Status::OutputFault | Status::OutOfMemory | Status::SumBound(_, _) => {
+            Ok(String::new(alloc))
         }
-        Status::Param(fault) => {
-            let what = param_fault(alloc, fault)?;
-            let what = what.as_str();
-            format!(in alloc; "splinter: parameter{what}\n")
-        }
-        Status::Shape(fault) => {
-            let what = shape_fault(alloc, *fault)?;
-            let what = what.as_str();
-            format!(in alloc; "splinter: shape: {what}\n")
-        }
-        Status::Table(fault) => {
-            let what = table_fault(alloc, *fault)?;
-            let what = what.as_str();
-            format!(in alloc; "splinter: table: {what}\n")
-        }
-        Status::MissingFile(name) => {
-            let name = name.as_str();
-            format!(in alloc; "splinter: no file {name}\n")
-        }
-        Status::FileFault => format!(in alloc; "splinter: file fault\n"),
-        Status::DrawFault => format!(in alloc; "splinter: draw fault\n"),
-        Status::FileTooLong(name) => {
-            let name = name.as_str();
-            format!(in alloc; "splinter: file too long {name}\n")
-        }
-        Status::NotBuilt(part) => {
-            let part = part_name(*part);
-            format!(in alloc; "splinter: not built: {part}\n")
-        }
+        status => line_of_text(alloc, text(alloc, status)?.as_str()),
     }
+}
+
+/// The line of a sum over its bound, in the column of this name.
+pub fn sum_line(alloc: Global, name: &Name, at: AtRow) -> Result<String, AllocError>
+    ensures { IfOk result (λ t. string_bytes t ≡ line (sum_text name.now at)) }
+{
+    line_of_text(alloc, sum(alloc, name, at)?.as_str())
 }
 
 /// The number that the program ends with.
@@ -159,12 +198,17 @@ pub fn number_of(status: &Status) -> u8
         Status::Param(_) => 4,
         Status::Shape(_) => 5,
         Status::Table(_) => 6,
+        Status::SumBound(_, _) => 7,
+        Status::Frame(_, _) => 8,
+        Status::Differ(_) => 9,
+        Status::BadWord(_, _) => 10,
         Status::MissingFile(_) => 11,
         Status::FileFault => 12,
         Status::OutputFault => 13,
         Status::DrawFault => 14,
         Status::OutOfMemory => 20,
         Status::FileTooLong(_) => 21,
+        Status::SameProvider(_) => 22,
         Status::NotBuilt(_) => 30,
     }
 }
