@@ -1,0 +1,5 @@
+pub mod Reads
+pub mod Questions
+pub mod Writes
+pub mod Outputs
+pub mod Stops

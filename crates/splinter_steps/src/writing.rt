@@ -1,0 +1,61 @@
+//! Writing files.
+ghost use Rattle.std.specs.Prelude.{◌≡◌, [], ◌∷◌, Some, IfSome, IfErr, IsErrOf, OnOk};
+ghost use Rattle.spl_outside.specs.Causes.{HasCause};
+ghost use Rattle.spl_outside.specs.Content.{KeepsBut};
+ghost use Rattle.splinter_steps.specs.Outputs.{output, IsLate};
+ghost use Rattle.splinter_steps.specs.Writes.{put_all, PutsSome};
+
+use spl_outside::{FileStop, Files};
+use splinter_status::Stopped;
+use std::alloc::Global;
+
+/// A file to be written.
+#[derive(Drop)]
+pub struct Output<'a> {
+    pub name: &'a str,
+    pub bytes: &'a [u8],
+}
+
+/// Writes a file.
+///
+/// # Errors
+///
+/// `FileFault` only where the files failed, and the name may then hold anything; `OutOfMemory`.
+pub fn write_file<F: Files>(alloc: Global, files: &mut F, file: &Output<'_>) -> Result<(), Stopped>
+    ensures whole { IfSome (F.held files.old) (λ m. OnOk result (F.held files.new ≡ Some (put_all (output file.now ∷ []) m))) }
+    ensures some { IfSome (F.held files.old) (λ m. PutsSome (output file.now ∷ []) m (F.held files.new)) }
+    ensures others { IfSome (F.held files.old) (λ m. KeepsBut ((output file.now).0 ∷ []) m (F.held files.new)) }
+    ensures late { IfErr result IsLate }
+    ensures cause { HasCause (F.faults files.old) (F.faults files.new) (IsErrOf result Stopped.FileFault) }
+{
+    match files.write(alloc, file.name, file.bytes) {
+        Ok(()) => Ok(()),
+        Err(FileStop::OutOfMemory) => Err(Stopped::OutOfMemory),
+        Err(FileStop::Failed) => Err(Stopped::FileFault),
+        // A write has no other end.
+        Err(FileStop::Absent | FileStop::TooLong) => unreachable!(),
+    }
+}
+
+/// Writes three files one after another, up to the first that fails.
+///
+/// # Errors
+///
+/// Those of `write_file`; the files before the one that failed stay, and none behind it is touched.
+pub fn write_three<F: Files>(
+    alloc: Global,
+    files: &mut F,
+    first: &Output<'_>,
+    second: &Output<'_>,
+    third: &Output<'_>,
+) -> Result<(), Stopped>
+    ensures whole { IfSome (F.held files.old) (λ m. OnOk result (F.held files.new ≡ Some (put_all (output first.now ∷ output second.now ∷ output third.now ∷ []) m))) }
+    ensures some { IfSome (F.held files.old) (λ m. PutsSome (output first.now ∷ output second.now ∷ output third.now ∷ []) m (F.held files.new)) }
+    ensures others { IfSome (F.held files.old) (λ m. KeepsBut ((output first.now).0 ∷ (output second.now).0 ∷ (output third.now).0 ∷ []) m (F.held files.new)) }
+    ensures late { IfErr result IsLate }
+    ensures cause { HasCause (F.faults files.old) (F.faults files.new) (IsErrOf result Stopped.FileFault) }
+{
+    write_file(alloc, files, first)?;
+    write_file(alloc, files, second)?;
+    write_file(alloc, files, third)
+}
