@@ -8,21 +8,24 @@ use Rattle.splinter_status.specs.declared.stops.Stopped.{Stopped}
 use Rattle.splinter_status.specs.declared.stops.Stopped.TheVariants as stopped
 use Rattle.std.specs.Prelude.{IfSome}
 use Rattle.spl_outside.specs.Content.{FileMap}
-use Rattle.splinter_cli.specs.Commands.{Ready, Order, judged, draws}
-use Rattle.splinter_status.specs.Ends.{end_of, status_of, Reports}
-use Rattle.splinter_cli.specs.Meets.{Meets, Refuses, LeftAfter}
+use Rattle.command_words.specs.Orders.{Order}
+use Rattle.splinter_cli.specs.Commands.{Ready, judged, draws}
+use Rattle.splinter_status.specs.Ends.{end_of, line_of_end, line_of_refusal, Reports}
+use Rattle.client_rounds.specs.Draws.{LeftAfter}
+use Rattle.splinter_cli.specs.Meets.{Meets, Refuses}
 use Rattle.splinter_cli.specs.Prints.{MayPrint, Cuts}
-use Rattle.splinter_status.specs.Texts.{line_of}
 
 -- the line of what stopped the command may be printed, but where it was memory
 pub may_print : (T : Type 0) (ready : Result Ready Refusal) (words : Option (List ℕ)) (s : Stopped) → end_of s ≢ status.OutOfMemory
-    → Refuses {T = T} (Err s) ready → MayPrint ready words (line_of (end_of s))
-may_print T ready words (stopped.Input (input.Refused r)) noted h = subst (λ step. MayPrint step words (line_of (status_of r))) (sym h) (inl refl)
+    → Refuses {T = T} (Err s) ready → MayPrint ready words (line_of_end s)
+may_print T ready words (stopped.Input (input.Refused r)) noted h = subst (λ step. MayPrint step words (line_of_refusal r)) (sym h) (inl refl)
 may_print T (Ok x) words (stopped.Input input.FileFault) noted h = inl refl
 may_print T (Err r) words (stopped.Input input.FileFault) noted h = inr refl
 may_print T ready words (stopped.Input input.OutOfMemory) noted h = absurd (noted refl)
 may_print T (Ok x) words stopped.DrawFault noted h = inr (inl refl)
 may_print T (Err r) words stopped.DrawFault noted h = absurd cc
+may_print T (Ok x) words stopped.FileFault noted h = inl refl
+may_print T (Err r) words stopped.FileFault noted h = absurd cc
 may_print T ready words stopped.OutOfMemory noted h = absurd (noted refl)
 
 -- a front of the line that was to be printed
@@ -37,17 +40,17 @@ cut_line ready words before text ended result now may quiet other is (inr (inr h
     let both : status.OutputFault ≡ status.OutOfMemory = sym is ∙ h.0 in absurd cc
 
 -- the same over what is told
-pub cut_stopped : (T : Type 0) (text : T → List ℕ) (files : Option FileMap) (order : Option Order) (words left sink : Option (List ℕ)) (s : Stopped) (result : Status) (now : Option (List ℕ))
-    → IfSome files (λ m. Meets {T = T} text (judged order m) words left (Err s)) → IfSome sink (λ w. Reports w (line_of (end_of s)) (end_of s) result now)
+pub cut_stopped : (T : Type 0) (text : T → List ℕ) (files held : Option FileMap) (order : Option Order) (words left sink : Option (List ℕ)) (s : Stopped) (result : Status) (now : Option (List ℕ))
+    → IfSome files (λ m. Meets {T = T} text (judged order m) m held words left (Err s)) → IfSome sink (λ w. Reports w (line_of_end s) (end_of s) result now)
     → end_of s ≢ status.OutputFault → (end_of s ≡ status.OutOfMemory → result ≡ status.OutOfMemory) → result ≡ status.OutputFault
     → IfSome files (λ m. IfSome sink (λ w. Cuts (judged order m) words w now))
-cut_stopped T text None order words left sink s result now meets reports other quiet is = tt
-cut_stopped T text (Some m) order words left None s result now meets reports other quiet is = tt
-cut_stopped T text (Some m) order words left (Some w) s result now meets reports other quiet is =
-    cut_line (judged order m) words w (line_of (end_of s)) (end_of s) result now (λ some. may_print T (judged order m) words s some meets.refuses) quiet other is reports
+cut_stopped T text None held order words left sink s result now meets reports other quiet is = tt
+cut_stopped T text (Some m) held order words left None s result now meets reports other quiet is = tt
+cut_stopped T text (Some m) held order words left (Some w) s result now meets reports other quiet is =
+    cut_line (judged order m) words w (line_of_end s) (end_of s) result now (λ some. may_print T (judged order m) words s some meets.refuses) quiet other is reports
 
 -- what a command that stopped drew
-pub drawn_stopped : (T : Type 0) (text : T → List ℕ) (files : Option FileMap) (order : Option Order) (words left : Option (List ℕ)) (s : Stopped)
-    → IfSome files (λ m. Meets {T = T} text (judged order m) words left (Err s)) → IfSome files (λ m. IfSome words (λ ws. LeftAfter (draws (judged order m)) ws left))
-drawn_stopped T text None order words left s meets = tt
-drawn_stopped T text (Some m) order words left s meets = meets.tells
+pub drawn_stopped : (T : Type 0) (text : T → List ℕ) (files held : Option FileMap) (order : Option Order) (words left : Option (List ℕ)) (s : Stopped)
+    → IfSome files (λ m. Meets {T = T} text (judged order m) m held words left (Err s)) → IfSome files (λ m. IfSome words (λ ws. LeftAfter (draws (judged order m)) ws left))
+drawn_stopped T text None held order words left s meets = tt
+drawn_stopped T text (Some m) held order words left s meets = meets.tells

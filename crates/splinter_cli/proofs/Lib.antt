@@ -1,8 +1,9 @@
-pub mod Sums
-pub mod Drawn
+pub mod Begun
+pub mod Bounded
+pub mod Combined
 pub mod Cut
 pub mod Late
-pub mod Keys
-pub mod Matches
-pub mod Built
-pub mod Readings
+pub mod Refused
+pub mod SessionsEnd
+pub mod Stops
+pub mod Written

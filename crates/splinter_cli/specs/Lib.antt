@@ -1,8 +1,6 @@
-pub mod Reads
+pub mod Refusals
 pub mod Questions
-pub mod Shares
 pub mod Commands
-pub mod Orders
 pub mod Meets
 pub mod Prints
-pub mod Draws
+pub mod Sessions

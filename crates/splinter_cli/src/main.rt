@@ -1,25 +1,28 @@
 //! Private SQL over two providers: the command line.
 #![tactic(auto)]
 
-mod commands;
-#[cfg(test)]
-mod count_tests;
+mod answer;
+mod combine;
 mod dispatch;
-mod draws;
 #[cfg(test)]
 mod failing_tests;
 mod host;
-mod queries;
+mod keys;
 #[cfg(test)]
 mod refusal_tests;
+mod refusals;
+mod rounds;
 mod run;
-mod shares;
-mod steps;
+#[cfg(test)]
+mod session_tests;
+mod sessions;
 #[cfg(test)]
 mod testing;
 mod trace;
-mod traced;
+#[cfg(test)]
+mod trace_tests;
 
+use share_eval::OpenGate;
 use std::alloc::Global;
 use std::process::ExitCode;
 use std::rt::Env;
@@ -41,6 +44,8 @@ fn main(rt: HostRuntime) -> ExitCode {
     let mut files = host::HostFiles::new(&rt);
     let mut draw = host::HostDraw::new(&rt);
     let mut out = host::HostSink::new(&rt);
-    let status = run::run(alloc, &words, &mut files, &mut draw, &mut out);
+    let status = run::run(
+        &rt, alloc, &words, &mut files, &mut draw, &mut out, &OpenGate,
+    );
     ExitCode::from(splinter_status::number_of(&status))
 }

@@ -1,53 +1,46 @@
 //! What `trace` refuses, and in which order.
-use crate::testing::run_steady;
-use std::alloc::{AllocError, Global};
+use crate::testing::{files_of, run_steady};
+use std::alloc::Global;
+use std::test::Fail;
+use std::thread::Threads;
 
-const SHAPE: &[u8] = b"table t\nrows 3\na TEXT(3)\nk ENUM(x|y)\nv UINT(8)\n";
+const SHAPE: &str = "table t\nrows 3\na TEXT(3)\nk ENUM(x|y)\nv UINT(8)\n";
 
 const QUERY: &str = "SELECT COUNT(*) FROM t WHERE a = ?";
 
 /// The words are refused with this status and this line, and no word is drawn.
-fn refuses(
+fn refuses<T: Threads + Sync>(
+    rt: &T,
     alloc: Global,
     words: &[&str],
-    shape: &[u8],
-    table: &[u8],
+    shape: &str,
+    table: &str,
     number: u8,
     text: &str,
-) -> Result<bool, AllocError> {
-    let left = run_steady(alloc, words, shape, table, &[7])?;
+) -> Result<bool, Fail> {
+    let mut files = files_of(alloc, &[("shape", shape), ("table", table)])?;
+    let left = run_steady(rt, alloc, words, &mut files, &[7])?;
     let line = format!(in alloc; "splinter: {text}\n")?;
-    Ok(left.number == number && left.printed.as_slice() == line.as_bytes() && left.next == 7)
+    Ok(left.number == number && left.printed == line && left.next == 7)
 }
 
 #[test]
-fn refuses_words_in_order(rt: HostRuntime) -> Result<(), AllocError> {
-    let rows: [(&[&str], u8, &str); 10] = [
+fn refuses_words_in_order(rt: HostRuntime) -> Result<(), Fail> {
+    let abroad = "SELECT SUM(v) FROM s WHERE a = ?";
+    let greatest = "SELECT MAX(v) FROM t WHERE a = ?";
+    let rows: [(&[&str], u8, &str); 9] = [
         (&[], 2, "usage"),
         (&["trace", "shape", "table", QUERY], 2, "usage"),
-        (&["Trace", "shape", "table", QUERY, "AB"], 2, "usage"),
         (&["trace", "none", "none", "", "SFOX"], 11, "no file none"),
         (
-            &[
-                "trace",
-                "shape",
-                "none",
-                "SELECT SUM(v) FROM s WHERE a = ?",
-                "SFOX",
-            ],
+            &["trace", "shape", "none", abroad, "SFOX"],
             3,
             "query: no table",
         ),
         (
-            &[
-                "trace",
-                "shape",
-                "none",
-                "SELECT SUM(v) FROM t WHERE a = ?",
-                "SFOX",
-            ],
+            &["trace", "shape", "none", greatest, "SFOX"],
             30,
-            "not built: query",
+            "not built: plan",
         ),
         (
             &["trace", "shape", "none", QUERY, "AB", "AB"],
@@ -68,7 +61,7 @@ fn refuses_words_in_order(rt: HostRuntime) -> Result<(), AllocError> {
     ];
     for (words, number, text) in &rows {
         assert!(rt;
-            refuses(rt.alloc(), words, SHAPE, b"", *number, text)?,
+            refuses(&rt, rt.alloc(), words, SHAPE, "", *number, text)?,
             "{text}"
         );
     }
@@ -76,17 +69,12 @@ fn refuses_words_in_order(rt: HostRuntime) -> Result<(), AllocError> {
 }
 
 #[test]
-fn refuses_queries(rt: HostRuntime) -> Result<(), AllocError> {
+fn refuses_queries(rt: HostRuntime) -> Result<(), Fail> {
     let rows = [
         (
             "SELECT COUNT(*) FROM flights WHERE origin = 'SFO' OR dest = ?",
             3,
             "query: no reading at 50",
-        ),
-        (
-            "SELECT COUNT(*) FROM t WHERE a BETWEEN ? AND ? AND a = ?",
-            3,
-            "query: no reading at 55",
         ),
         (
             "SELECT COUNT(*) FROM t WHERE a = 'AB'",
@@ -98,36 +86,22 @@ fn refuses_queries(rt: HostRuntime) -> Result<(), AllocError> {
             3,
             "query: no column A",
         ),
+        ("SELECT MIN(v) FROM t WHERE a = ?", 30, "not built: plan"),
         (
-            "SELECT COUNT(*) FROM t WHERE a BETWEEN ? AND ?",
+            "SELECT COUNT(*), MAX(v) FROM t WHERE v BETWEEN ? AND ?",
             30,
-            "not built: query",
+            "not built: plan",
         ),
         (
-            "SELECT COUNT(*) FROM t WHERE a = ? OR a = ?",
+            "SELECT TOPK(2, v, a) FROM t WHERE a = ?",
             30,
-            "not built: query",
-        ),
-        (
-            "SELECT COUNT(*) FROM t WHERE v = 3 AND a = ?",
-            30,
-            "not built: query",
-        ),
-        (
-            "SELECT COUNT(*) FROM t WHERE a = ? GROUP BY k",
-            30,
-            "not built: query",
-        ),
-        (
-            "SELECT COUNT(*), COUNT(*) FROM t WHERE a = ?",
-            30,
-            "not built: query",
+            "not built: plan",
         ),
     ];
     for (query, number, text) in rows {
         let words = ["trace", "shape", "none", query, "AB"];
         assert!(rt;
-            refuses(rt.alloc(), &words, SHAPE, b"", number, text)?,
+            refuses(&rt, rt.alloc(), &words, SHAPE, "", number, text)?,
             "{query}"
         );
     }
@@ -135,31 +109,45 @@ fn refuses_queries(rt: HostRuntime) -> Result<(), AllocError> {
 }
 
 #[test]
-fn refuses_what_files_hold(rt: HostRuntime) -> Result<(), AllocError> {
-    let shape: &[u8] = b"table t\nrows 3\na TEXT(3)\n";
-    let rows: [(&[u8], &[u8], u8, &str); 7] = [
-        (b"table t\nrows 1\n", b"", 5, "shape: line 3: bad"),
-        (b"table T\nrows 3\na TEXT(3)\n", b"", 3, "query: no table"),
-        (shape, b"", 6, "table: bad header"),
-        (shape, b"a\nAB\nAB\n", 6, "table: 2 rows, not 3"),
-        (shape, b"a\nAB\nAB,\nlong\n", 6, "table: row 1: length"),
+fn refuses_what_files_hold(rt: HostRuntime) -> Result<(), Fail> {
+    let shape = "table t\nrows 3\na TEXT(3)\n";
+    let sum = "SELECT SUM(v) FROM t WHERE a = ?";
+    let rows: [(&str, &str, &str, u8, &str); 6] = [
+        (QUERY, "table t\nrows 1\n", "", 5, "shape: line 3: bad"),
         (
+            QUERY,
+            "table T\nrows 3\na TEXT(3)\n",
+            "",
+            3,
+            "query: no table",
+        ),
+        (QUERY, shape, "a\nAB\nAB\n", 6, "table: 2 rows, not 3"),
+        (
+            QUERY,
             shape,
-            b"a\nAB\nSFOX\nAB\n",
+            "a\nAB\nAB,\nlong\n",
+            6,
+            "table: row 1: length",
+        ),
+        (
+            QUERY,
+            shape,
+            "a\nAB\nSFOX\nAB\n",
             6,
             "table: row 1, column 0: too long",
         ),
         (
-            b"table t\nrows 1\na TEXT(3)\n",
-            b"a\n\xff\n",
-            6,
-            "table: row 0, column 0: bad byte",
+            sum,
+            "table t\nrows 2\na TEXT(3)\nv UINT(64)\n",
+            "a,v\nAB,18446744073709551615\nSFO,1\n",
+            7,
+            "sum: column v, row 1, sum 18446744073709551616",
         ),
     ];
-    let words = ["trace", "shape", "table", QUERY, "AB"];
-    for (shape, table, number, text) in &rows {
+    for (query, shape, table, number, text) in rows {
+        let words = ["trace", "shape", "table", query, "AB"];
         assert!(rt;
-            refuses(rt.alloc(), &words, shape, table, *number, text)?,
+            refuses(&rt, rt.alloc(), &words, shape, table, number, text)?,
             "{text}"
         );
     }

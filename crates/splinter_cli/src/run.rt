@@ -1,7 +1,12 @@
 //! The top call.
-ghost use Rattle.std.specs.Prelude.{◌≡◌, ◌≢◌, ◌++◌, ℕ, List, IfSome, IsErr, IsOk, map, Some, None, Err};
+ghost use Rattle.std.specs.Prelude.{◌≡◌, ◌≢◌, ◌⊎◌, ◌++◌, ℕ, List, IfSome, IsErr, IsOk, map, Some, None, Err};
 ghost use Rattle.std.specs.String.{string_bytes};
 ghost use Rattle.spl_outside.specs.Causes.{HasCause};
+ghost use Rattle.spl_outside.specs.Content.{KeepsBut};
+ghost use Rattle.spl_words.specs.declared.differ.Differ.{Differ as TheDiffer};
+ghost use Rattle.spl_words.specs.declared.provider.Provider.{Provider as TheProvider};
+ghost use Rattle.spl_words.specs.declared.fault.FrameFault.{FrameFault};
+ghost use Rattle.spl_words.specs.declared.fault.FrameFault.TheVariants as frame;
 ghost use Rattle.spl_values.specs.declared.shape_reader.ShapeFault.{ShapeFault};
 ghost use Rattle.spl_values.specs.declared.shape_reader.ShapeFault.TheVariants as shape;
 ghost use Rattle.query_parser.specs.declared.fault.QueryFault.{QueryFault};
@@ -10,75 +15,102 @@ ghost use Rattle.query_reader.specs.declared.params.ParamFault.{ParamFault};
 ghost use Rattle.query_reader.specs.declared.params.ParamFault.TheVariants as param;
 ghost use Rattle.csv_tables.specs.declared.fault.TableFault.{TableFault};
 ghost use Rattle.csv_tables.specs.declared.fault.TableFault.TheVariants as table;
-ghost use Rattle.splinter_cli.specs.Commands.{order_of, judged, draws};
-ghost use Rattle.splinter_status.specs.Ends.{ComesExactlyWhere, ComesWhereRead};
-ghost use Rattle.splinter_cli.specs.Meets.{LeftAfter};
-ghost use Rattle.splinter_cli.specs.Prints.{Prints, Cuts};
+ghost use Rattle.sum_bounds.specs.declared.AtRow.{AtRow};
+ghost use Rattle.client_rounds.specs.Draws.{LeftAfter};
+ghost use Rattle.command_words.specs.Forms.{form_of};
+ghost use Rattle.splinter_cli.specs.Commands.{draws, judged, names_of};
+ghost use Rattle.splinter_cli.specs.Prints.{Cuts, Names, Prints, Says, Writes, WritesSome};
+ghost use Rattle.splinter_status.specs.Ends.{ComesExactlyWhere, ComesWhereRead, EndsAs, Reports};
 ghost use Rattle.splinter_status.specs.Texts.{HasLine, line_of};
 ghost use Rattle.splinter_status.specs.declared.status.Part.{Part};
 ghost use Rattle.splinter_status.specs.declared.status.Part.TheVariants as part;
 ghost use Rattle.splinter_status.specs.declared.stops.Refusal.TheVariants as refusal;
 
-use crate::dispatch::dispatch;
+use crate::dispatch::carry_out;
+use share_eval::Gate;
 use spl_outside::{Draw, Files, Sink};
 use splinter_status::{Status, print, refuse};
 use std::alloc::Global;
+use std::thread::Threads;
 
-/// Runs the command that the words mean, and prints its text or the line of its refusal.
+/// Prints a text, unless it is empty.
+fn print_text<O: Sink>(alloc: Global, out: &mut O, text: &[u8]) -> Status
+    ensures ends { EndsAs Status.Done result }
+    ensures told { IfSome (O.written out.old) (λ w. Reports w text.now Status.Done result (O.written out.new)) }
+    ensures cause { HasCause (O.faults out.old) (O.faults out.new) (result ≡ Status.OutputFault) }
+{
+    if text.is_empty() {
+        Status::Done
+    } else {
+        print(alloc, out, text, Status::Done)
+    }
+}
+
+/// Runs the command that the words mean: writes its files, and prints its text or the line of its refusal.
 ///
 /// The words are the command line without the program's name. Steps are taken in their order, and the
 /// first refusal ends the command. Where the line of a refusal can't be printed the status is
 /// `OutputFault`, or `OutOfMemory`, in its place.
-pub fn run<F: Files, R: Draw, O: Sink>(
+pub fn run<T: Threads + Sync, F: Files, R: Draw, O: Sink, G: Gate + Sync>(
+    rt: &T,
     alloc: Global,
     words: &Vec<String>,
     files: &mut F,
     draw: &mut R,
     out: &mut O,
+    gate: &G,
 ) -> Status
     // What the words alone refuse, before anything else is touched.
-    ensures usage { ComesExactlyWhere (order_of (map string_bytes words.now.items) ≡ None) Status.Usage result }
-    ensures untouched { order_of (map string_bytes words.now.items) ≡ None → (files.new ≡ files.old) × (draw.new ≡ draw.old) }
+    ensures usage { ComesExactlyWhere (form_of (map string_bytes words.now.items) ≡ None) Status.Usage result }
+    ensures untouched { form_of (map string_bytes words.now.items) ≡ None → (files.new ≡ files.old) × (draw.new ≡ draw.old) }
 
     // What the words and the files refuse, where the files are told.
-    ensures query { IfSome (F.held files.old) (λ m. (fault : QueryFault) → ComesWhereRead (judged (order_of (map string_bytes words.now.items)) m ≡ Err (refusal.Query fault)) (Status.Query fault) result) }
-    ensures param { IfSome (F.held files.old) (λ m. (fault : ParamFault) → ComesWhereRead (judged (order_of (map string_bytes words.now.items)) m ≡ Err (refusal.Param fault)) (Status.Param fault) result) }
-    ensures shape { IfSome (F.held files.old) (λ m. (fault : ShapeFault) → ComesWhereRead (judged (order_of (map string_bytes words.now.items)) m ≡ Err (refusal.Shape fault)) (Status.Shape fault) result) }
-    ensures table { IfSome (F.held files.old) (λ m. (fault : TableFault) → ComesWhereRead (judged (order_of (map string_bytes words.now.items)) m ≡ Err (refusal.Table fault)) (Status.Table fault) result) }
-    ensures missing { IfSome (F.held files.old) (λ m. (name : List ℕ) → ComesWhereRead (judged (order_of (map string_bytes words.now.items)) m ≡ Err (refusal.MissingFile name)) (Status.MissingFile name) result) }
-    ensures too_long { IfSome (F.held files.old) (λ m. (name : List ℕ) → ComesWhereRead (judged (order_of (map string_bytes words.now.items)) m ≡ Err (refusal.FileTooLong name)) (Status.FileTooLong name) result) }
-    ensures not_built { IfSome (F.held files.old) (λ m. (p : Part) → ComesWhereRead (judged (order_of (map string_bytes words.now.items)) m ≡ Err (refusal.NotBuilt p)) (Status.NotBuilt p) result) }
-    ensures undrawn { IfSome (F.held files.old) (λ m. IsErr (judged (order_of (map string_bytes words.now.items)) m) → draw.new ≡ draw.old) }
+    ensures query { IfSome (F.held files.old) (λ m. (fault : QueryFault) → ComesWhereRead (judged (form_of (map string_bytes words.now.items)) m ≡ Err (refusal.Query fault)) (Status.Query fault) result) }
+    ensures param { IfSome (F.held files.old) (λ m. (fault : ParamFault) → ComesWhereRead (judged (form_of (map string_bytes words.now.items)) m ≡ Err (refusal.Param fault)) (Status.Param fault) result) }
+    ensures shape { IfSome (F.held files.old) (λ m. (fault : ShapeFault) → ComesWhereRead (judged (form_of (map string_bytes words.now.items)) m ≡ Err (refusal.Shape fault)) (Status.Shape fault) result) }
+    ensures table { IfSome (F.held files.old) (λ m. (fault : TableFault) → ComesWhereRead (judged (form_of (map string_bytes words.now.items)) m ≡ Err (refusal.Table fault)) (Status.Table fault) result) }
+    ensures sum { IfSome (F.held files.old) (λ m. (column : ℕ) (at : AtRow) → ComesWhereRead (Names (λ name. judged (form_of (map string_bytes words.now.items)) m ≡ Err (refusal.SumBound name column at))) (Status.SumBound column at) result) }
+    ensures frame { IfSome (F.held files.old) (λ m. (name : List ℕ) (fault : FrameFault) → ComesWhereRead (judged (form_of (map string_bytes words.now.items)) m ≡ Err (refusal.Frame name fault)) (Status.Frame name fault) result) }
+    ensures differ { IfSome (F.held files.old) (λ m. (which : TheDiffer) → ComesWhereRead (judged (form_of (map string_bytes words.now.items)) m ≡ Err (refusal.Differ which)) (Status.Differ which) result) }
+    ensures bad_word { IfSome (F.held files.old) (λ m. (place word : ℕ) → ComesWhereRead (judged (form_of (map string_bytes words.now.items)) m ≡ Err (refusal.BadWord place word)) (Status.BadWord place word) result) }
+    ensures same_provider { IfSome (F.held files.old) (λ m. (p : TheProvider) → ComesWhereRead (judged (form_of (map string_bytes words.now.items)) m ≡ Err (refusal.SameProvider p)) (Status.SameProvider p) result) }
+    ensures missing { IfSome (F.held files.old) (λ m. (name : List ℕ) → ComesWhereRead (judged (form_of (map string_bytes words.now.items)) m ≡ Err (refusal.MissingFile name)) (Status.MissingFile name) result) }
+    ensures too_long { IfSome (F.held files.old) (λ m. (name : List ℕ) → ComesWhereRead (judged (form_of (map string_bytes words.now.items)) m ≡ Err (refusal.FileTooLong name)) (Status.FileTooLong name) result) }
+    ensures not_built { IfSome (F.held files.old) (λ m. (p : Part) → ComesWhereRead (judged (form_of (map string_bytes words.now.items)) m ≡ Err (refusal.NotBuilt p)) (Status.NotBuilt p) result) }
+    ensures undrawn { IfSome (F.held files.old) (λ m. IsErr (judged (form_of (map string_bytes words.now.items)) m) → draw.new ≡ draw.old) }
 
     // What never comes: a part that has only forms that are built, and want of memory inside a fault.
-    ensures only_query { (p : Part) → result ≡ Status.NotBuilt p → p ≡ part.Query }
+    ensures only_query_and_plan { (p : Part) → result ≡ Status.NotBuilt p → (p ≡ part.Query) ⊎ (p ≡ part.Plan) }
     ensures never_inside_query { result ≢ Status.Query query.OutOfMemory }
     ensures never_inside_param { result ≢ Status.Param param.OutOfMemory }
     ensures never_inside_shape { result ≢ Status.Shape shape.OutOfMemory }
     ensures never_inside_table { result ≢ Status.Table table.OutOfMemory }
+    ensures never_inside_frame { (name : List ℕ) → result ≢ Status.Frame name frame.OutOfMemory }
 
     // A fault comes only where its object counted one in this call.
     ensures file_fault { HasCause (F.faults files.old) (F.faults files.new) (result ≡ Status.FileFault) }
     ensures draw_fault { HasCause (R.faults draw.old) (R.faults draw.new) (result ≡ Status.DrawFault) }
     ensures output_fault { HasCause (O.faults out.old) (O.faults out.new) (result ≡ Status.OutputFault) }
-    ensures fault_undrawn { result ≡ Status.FileFault → draw.new ≡ draw.old }
-    ensures late_draw { result ≡ Status.DrawFault → IfSome (F.held files.old) (λ m. IsOk (judged (order_of (map string_bytes words.now.items)) m)) }
+    ensures late_draw { result ≡ Status.DrawFault → IfSome (F.held files.old) (λ m. IsOk (judged (form_of (map string_bytes words.now.items)) m)) }
 
-    // What is printed.
+    // What is printed and written.
     ensures done { result ≡ Status.Done → IfSome (F.held files.old) (λ m. IfSome (R.words draw.old) (λ ws. IfSome (O.written out.old) (λ w.
-        Prints (judged (order_of (map string_bytes words.now.items)) m) ws (R.words draw.new) w (O.written out.new)))) }
+        Prints (judged (form_of (map string_bytes words.now.items)) m) ws (R.words draw.new) w (O.written out.new)))) }
+    ensures writes { result ≡ Status.Done → IfSome (F.held files.old) (λ m. IfSome (R.words draw.old) (λ ws. Writes (judged (form_of (map string_bytes words.now.items)) m) ws m (F.held files.new))) }
+    ensures writes_some { IfSome (F.held files.old) (λ m. IfSome (R.words draw.old) (λ ws. WritesSome (judged (form_of (map string_bytes words.now.items)) m) ws m (F.held files.new))) }
     ensures line { HasLine result → IfSome (O.written out.old) (λ w. O.written out.new ≡ Some (w ++ line_of result)) }
+    ensures says { IfSome (F.held files.old) (λ m. IfSome (O.written out.old) (λ w. Says (judged (form_of (map string_bytes words.now.items)) m) result w (O.written out.new))) }
     ensures cut { result ≡ Status.OutputFault → IfSome (F.held files.old) (λ m. IfSome (O.written out.old) (λ w.
-        Cuts (judged (order_of (map string_bytes words.now.items)) m) (R.words draw.old) w (O.written out.new))) }
+        Cuts (judged (form_of (map string_bytes words.now.items)) m) (R.words draw.old) w (O.written out.new))) }
     ensures nothing { result ≡ Status.OutOfMemory → IfSome (O.written out.old) (λ w. O.written out.new ≡ Some w) }
 
     // What stays, and what is drawn.
-    ensures files_stay { F.held files.new ≡ F.held files.old }
+    ensures others { IfSome (F.held files.old) (λ m. KeepsBut (names_of (form_of (map string_bytes words.now.items))) m (F.held files.new)) }
     ensures drawn { IfSome (F.held files.old) (λ m. IfSome (R.words draw.old) (λ ws.
-        LeftAfter (draws (judged (order_of (map string_bytes words.now.items)) m)) ws (R.words draw.new))) }
+        LeftAfter (draws (judged (form_of (map string_bytes words.now.items)) m)) ws (R.words draw.new))) }
 {
-    match dispatch(alloc, words, files, draw) {
-        Ok(text) => print(alloc, out, &text, Status::Done),
+    match carry_out(rt, alloc, words, files, draw, gate) {
+        Ok(text) => print_text(alloc, out, &text),
         Err(stopped) => refuse(alloc, out, stopped),
     }
 }
