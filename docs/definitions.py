@@ -33,11 +33,17 @@ CRATES = [
     ("share_eval", "The sums of shares times cells."),
     ("count_sum", "What counts and sums are folded over."),
     ("private_plan", "Plans: which trees a query asks for, after Splinter (Wang, Yun, Goldwasser, Vaikuntanathan and Zaharia, NSDI 2017), and what their secrets are."),
-    ("session_model", "What each provider answers."),
     ("frame_fields", "The fields that all frames share, and what reading them gives."),
     ("answer_frames", "What a provider sends back."),
     ("key_frames", "What a provider is sent, and the client's note."),
+    ("session_model", "What each provider answers, and the bytes of a session."),
+    ("judged_queries", "What a text and what codes are for a schema."),
+    ("provider_core", "What a provider answers to bytes, refusals first."),
+    ("combiner", "What two answers add up to, and the answer that the sums stand for."),
+    ("client_rounds", "A session from its random words to its result."),
+    ("command_words", "What the words of the command line mean, read as the crate `clap` defines."),
     ("splinter_status", "How a command ends: statuses, their lines, and the errors of its phases."),
+    ("splinter_steps", "The steps that commands share."),
     ("splinter_cli", "The commands: what their words and files come to, what is printed, and how each status comes."),
 ]
 
