@@ -41,6 +41,7 @@ CRATES = [
     ("provider_core", "What a provider answers to bytes, refusals first."),
     ("combiner", "What two answers add up to, and the answer that the sums stand for."),
     ("client_rounds", "A session from its random words to its result."),
+    ("session_laws", "Whole sessions: what is asked of a table, and what is written for it."),
     ("command_words", "What the words of the command line mean, read as the crate `clap` defines."),
     ("splinter_status", "How a command ends: statuses, their lines, and the errors of its phases."),
     ("splinter_steps", "The steps that commands share."),

@@ -1,8 +1,7 @@
 -- The words of cells of counts and sums, and lists of words.
-use Rattle.std.proofs.Common.{◌≡◌, ℕ, zero, suc, ◌+◌, ◌%◌, ◌^◌, ◌<◌, ◌≤◌, true, List, [], ◌∷◌, ◌++◌, length, refl, sym, ap, ◌∙◌, arith}
+use Rattle.std.proofs.Common.{◌≡◌, ℕ, zero, suc, ◌+◌, ◌^◌, ◌<◌, ◌≤◌, true, List, [], ◌∷◌, ◌++◌, length, refl, ap, ◌∙◌, arith}
 use Rattle.std.specs.Prelude.{map, slice_index}
 use Rattle.std.specs.List.{AllByRecursion, flat_map, list_all, range_with_len}
-use Rattle.std.proofs.Math.Nat.{mod-lt}
 use Rattle.spl_words.specs.Words.{plus}
 use Rattle.cell_merge.specs.Rows.{Row}
 use Rattle.cell_merge.specs.Cells.{Addends, block, cell, groups, items_words}

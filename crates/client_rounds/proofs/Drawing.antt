@@ -2,8 +2,8 @@
 use Rattle.std.proofs.Common.{◌≡◌, ℕ, suc, ◌+◌, ◌-◌, ◌*◌, ◌≤◌, ◌<◌, List, [], ◌∷◌, ◌++◌, drop, Option, Some, None, refl, sym, ap, subst, ◌∙◌, append_assoc, arith}
 use Rattle.std.specs.Prelude.{IfSome}
 use Rattle.std.proofs.lemmas.List.{append-nil, drop-drop}
+use Rattle.spl_outside.specs.Content.{LeftAfter}
 use Rattle.session_model.specs.Draws.{tree_roots, roots_of}
-use Rattle.client_rounds.specs.Draws.{LeftAfter}
 
 -- some more of the words behind others
 later : (i most all : ℕ) (words : List ℕ) (left : Option (List ℕ)) → i + most ≤ all → LeftAfter most (drop i words) left → LeftAfter all words left

@@ -1,52 +1,48 @@
 -- A session over one table ends with the clear answer.
-use Rattle.std.proofs.Common.{◌≡◌, ℕ, zero, suc, ◌+◌, ◌%◌, ◌^◌, ◌<◌, ◌≤◌, Bool, true, false, cond, List, [], ◌∷◌, length, drop, Option, None, Some, Result, Ok, Err, refl, sym, ap, subst, ◌∙◌, arith}
+use Rattle.std.proofs.Common.{◌≡◌, ℕ, zero, suc, ◌+◌, ◌^◌, ◌<◌, ◌≤◌, Bool, true, false, cond, List, length, drop, None, Some, Result, Ok, refl, sym, ap, ◌∙◌, arith}
 use Rattle.std.specs.Prelude.{map, slice_index, nat_lt, ◌==◌}
 use Rattle.std.specs.List.{list_all, range_with_len}
-use Rattle.std.proofs.Math.Nat.{mod-lt, mod-eq_of_lt}
+use Rattle.std.proofs.Math.Nat.{mod-eq_of_lt}
 use Rattle.std.proofs.lemmas.Bool.Decides.{nat_tests}
 use Rattle.std.proofs.lemmas.List.{length-map}
 use Rattle.std.proofs.lemmas.List.FromFn.{length-range_with_len}
-use Rattle.sha2.specs.Sha256.{sha256}
 use Rattle.sha2.proofs.Facts256.{length-sha256}
 use Rattle.spl_words.specs.declared.provider.Provider.{Provider}
 use Rattle.spl_words.specs.declared.provider.Provider.TheVariants.{Zero, One}
 use Rattle.spl_words.specs.Words.{plus}
-use Rattle.spl_values.specs.Shapes.{SchemaParts, ShapeParts}
+use Rattle.spl_values.specs.Shapes.{SchemaParts}
 use Rattle.spl_values.specs.Tables.{TableParts, IsTable}
-use Rattle.csv_tables.specs.Writing.{digest_of}
-use Rattle.cell_merge.specs.Rows.{Row, Apart}
+use Rattle.cell_merge.specs.Rows.{Apart}
 use Rattle.cell_merge.specs.Cells.{cell, cell_width}
 use Rattle.cell_merge.specs.TableRows.{adds_in, rows_of}
 use Rattle.cell_merge.proofs.Labels.{Apart-filter}
 use Rattle.cell_merge.proofs.Lists.{length-filter-le}
 use Rattle.cell_merge.proofs.RowCells.{rows_apart}
 use Rattle.seed_expansion.specs.Expanders.{Meaning, IsPure}
-use Rattle.query_grammar.specs.Canonical.{IsQuery}
 use Rattle.query_grammar.specs.Queries.{QueryParts}
 use Rattle.query_tokens.specs.Printing.{IsWellFormed, canonical_text}
 use Rattle.query_reader.specs.declared.checked.Checked.{Checked}
 use Rattle.query_reader.specs.declared.params.ParamFault.{ParamFault}
 use Rattle.query_reader.specs.Accepted.{IsCheckedFor}
 use Rattle.query_reader.specs.Matching.{is_kept, matching_rows, kept_rows, some_branch_holds}
-use Rattle.query_reader.specs.Params.{AreParamsFor, params_of_words, count_fault, fault_or, marks_of}
+use Rattle.query_reader.specs.Params.{AreParamsFor, params_of_words, fault_or, marks_of}
 use Rattle.query_reader.proofs.Codes.{answered_known}
 use Rattle.query_reader.proofs.Known.{checked_fits, checked_width}
 use Rattle.judged_queries.specs.Queries.{checked_in}
 use Rattle.judged_queries.specs.Codes.{codes_in, codes_from}
 use Rattle.judged_queries.proofs.TakenCodes.{words_are_codes}
 use Rattle.clear_sql.specs.Clear.{SumsFit, clear}
-use Rattle.clear_sql.specs.AnswerText.{answer_text}
 use Rattle.clear_sql.proofs.MatchingCells.{matching_clear, length-rows_of}
 use Rattle.count_sum.specs.SumPairs.{sum_pairs}
 use Rattle.private_plan.specs.declared.plans.PlanKind.TheVariants as kind
-use Rattle.private_plan.specs.Plans.{is_sum, kind_for, kind_of, last_bits, plan_of}
+use Rattle.private_plan.specs.Plans.{is_sum, kind_for, last_bits, plan_of}
 use Rattle.private_plan.specs.Slots.{sum_secrets}
 use Rattle.answer_frames.specs.declared.answer.AnswerFrame.{AnswerFrame}
 use Rattle.answer_frames.specs.Spelling.{AnswerOf}
 use Rattle.key_frames.specs.Notes.{NoteOf}
 use Rattle.session_model.specs.Draws.{wide, roots_of}
 use Rattle.session_model.specs.KeyLists.{key_list, key_shares}
-use Rattle.session_model.specs.Providers.{shares_of, weighted_word, answer_word}
+use Rattle.session_model.specs.Providers.{weighted_word, answer_word}
 use Rattle.session_model.specs.Answers.{answer_words, answer_frame}
 use Rattle.session_model.specs.Sessions.{session_roots, key_frame, key_bytes, round_answer, note, note_bytes, clear_text}
 use Rattle.session_model.proofs.Answers.{answers_add}

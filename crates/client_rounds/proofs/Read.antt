@@ -1,5 +1,5 @@
 -- Spelled notes and answers are read, and what is read comes to a result.
-use Rattle.std.proofs.Common.{◌≡◌, ℕ, ◌≤◌, List, length, Ok, refl, sym, ap, arith}
+use Rattle.std.proofs.Common.{◌≡◌, ℕ, List, length, Ok, refl, ap, arith}
 use Rattle.spl_values.specs.Shapes.{ShapeParts}
 use Rattle.cell_merge.specs.Cells.{block_width}
 use Rattle.frame_fields.specs.Reading.{frame_at}

@@ -1,5 +1,5 @@
 //! The first round of a session.
-ghost use Rattle.std.specs.Prelude.{◌≡◌, ◌⊎◌, ◌≤◌, ◌<◌, ◌^◌, ℕ, List, true, None, length, replicate, IfSome, IfOk, IfErr, IsErrOf};
+ghost use Rattle.std.specs.Prelude.{◌≡◌, ◌⊎◌, ◌≤◌, ◌<◌, ℕ, List, true, None, length, replicate, IfSome, IfOk, IfErr, IsErrOf};
 ghost use Rattle.std.specs.List.{list_all, position};
 ghost use Rattle.sha2.specs.Sha256.{sha256};
 ghost use Rattle.spl_outside.specs.Causes.{HasCause};

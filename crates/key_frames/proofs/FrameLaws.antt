@@ -9,7 +9,7 @@ use Rattle.spl_values.specs.Shapes.{IsShape}
 use Rattle.spl_values.specs.ShapeTexts.{shape_text}
 use Rattle.frame_fields.specs.Typed.{IsBytes}
 use Rattle.frame_fields.specs.Reading.{Gives, frame_at, sealed, number_at, magic_at, version_at, within_at, provider_at, many_at, text_at, decoded_at}
-use Rattle.frame_fields.proofs.Laws.{IsField, Any, and_then, done_field, restate_field, number_field, magic_field, version_field, within_field, provider_field, text_field, decoded_field, many_field, length_of_parts_le, length-sealed, reader_found, reader_only, no_prefix, wide8, wide16}
+use Rattle.frame_fields.proofs.Laws.{IsField, Any, and_then, done_field, restate_field, number_field, magic_field, version_field, within_field, provider_field, text_field, decoded_field, many_field, length_of_parts_le, length-sealed, frame_only, reader_found, reader_only, no_prefix, wide8, wide16}
 use Rattle.frame_fields.proofs.Wide.{wide128}
 use Rattle.key_frames.specs.declared.frame.KeyFrame.{KeyFrame}
 use Rattle.key_frames.specs.declared.keys.Key.{Key}
@@ -73,6 +73,9 @@ length-frame f t =
     let shape = to_be_bytes w16 (length (shape_text f.shape)) ++ (shape_text f.shape ++ rest) in
     let text = shape_length f.shape t.1.shape in
     omega (arith, length-sealed (frame_body f), length-append f.query shape, length-append (shape_text f.shape) rest, keys, t.0.query_length.1, text.1, t.0.count.1)
+
+pub frame_read : (bytes : List ℕ) (f : KeyFrame) → KeyFrameOf bytes f → frame_at frame_fields_at bytes ≡ Ok f
+frame_read bytes f of = frame_only frame_fields_at FrameFits frame_body fields_field bytes f (of.allowed, of.typed) (omega (arith, length-frame f (of.allowed, of.typed), ap length of.spelled)) of.spelled
 
 pub is_found : (bytes : List ℕ) (r : Result KeyFrame FrameFault) → IsBytes bytes → Gives (λ x. x) r (frame_at frame_fields_at bytes) → IfOk r (λ f. KeyFrameOf bytes f)
 is_found bytes (Ok f) are given =

@@ -16,13 +16,13 @@ use Rattle.private_plan.specs.Plans.{is_sum}
 use Rattle.key_frames.specs.declared.frame.KeyFrame.{KeyFrame}
 use Rattle.key_frames.specs.FrameReading.{frame_fields_at}
 use Rattle.key_frames.specs.Frames.{KeyFrameOf}
+use Rattle.key_frames.proofs.FrameLaws.{frame_read}
 use Rattle.session_model.specs.Answers.{answer_bytes}
 use Rattle.session_model.specs.Sessions.{key_frame}
 use Rattle.client_rounds.specs.Asked.{IsAsked}
 use Rattle.provider_core.specs.Answering.{answered}
 use Rattle.provider_core.specs.Asking.{asked_in, frame_in, if_own, if_same_text, keys_placed, query_in}
 use Rattle.provider_core.specs.Bounds.{sums_bounded}
-use Rattle.session_laws.proofs.Frames.{frame_read}
 use Rattle.session_laws.proofs.Layouts.{round_placed}
 
 own_is : (p : Provider) → if_own p p ≡ Ok tt

@@ -1,4 +1,3 @@
-mod Frames
 mod Layouts
 mod Answered
 mod Ended

@@ -1,25 +1,25 @@
 //! Laws of whole sessions. Each function does nothing: its clauses are the laws.
-ghost use Rattle.std.specs.Prelude.{◌≡◌, ℕ, true, List, Ok};
-ghost use Rattle.std.specs.List.{list_all};
+ghost use Rattle.std.specs.Prelude.{◌≡◌, ℕ, ◌<◌, ◌^◌, true, List, Ok};
+ghost use Rattle.std.specs.List.{AllByRecursion, list_all};
 ghost use Rattle.spl_words.specs.declared.provider.Provider.{Provider};
 ghost use Rattle.spl_words.specs.declared.provider.Provider.TheVariants.{Zero, One};
 ghost use Rattle.spl_values.specs.Tables.{TableParts, IsTable};
 ghost use Rattle.seed_expansion.specs.Expanders.{Meaning, IsPure};
-ghost use Rattle.query_tokens.specs.Printing.{IsWellFormed};
 ghost use Rattle.query_reader.specs.declared.checked.Checked.{Checked};
 ghost use Rattle.query_reader.specs.Accepted.{IsCheckedFor};
-ghost use Rattle.query_reader.specs.Params.{params_of_words};
 ghost use Rattle.private_plan.specs.Plans.{is_sum};
 ghost use Rattle.key_frames.specs.Frames.{KeyFrameOf};
-ghost use Rattle.key_frames.specs.Notes.{NoteOf};
 ghost use Rattle.answer_frames.specs.Spelling.{AnswerOf};
 ghost use Rattle.session_model.specs.Answers.{answer_bytes, answer_frame};
-ghost use Rattle.session_model.specs.Sessions.{key_frame, key_bytes, note, note_bytes, clear_text};
+ghost use Rattle.session_model.specs.Sessions.{key_frame};
 ghost use Rattle.client_rounds.specs.Asked.{IsAsked};
+ghost use Rattle.client_rounds.specs.Expanding.{GivesSeeds};
 ghost use Rattle.client_rounds.specs.Finishing.{finished};
 ghost use Rattle.provider_core.specs.Answering.{answered};
 ghost use Rattle.provider_core.specs.Bounds.{sums_bounded};
+ghost use Rattle.session_laws.specs.Sessions.{Session, IsSession, IsSpelled, IsAnswer, own_note, own_text};
 
+use client_rounds::laws::{params_are_few, round_is_spelled};
 use judged_queries::laws::canonical_text_is_accepted;
 use provider_core::laws::bounded_sums_fit;
 
@@ -37,19 +37,23 @@ pub fn own_keys_are_answered()
     canonical_text_is_accepted();
 }
 
-/// A session of counts, sums and means ends with the clear answer: for every pure expander, an accepted query, parameters
-/// that some words gave, drawn words whose frames and note are such, and a table of the shape within its sum bounds, the
-/// note of the session and what both providers answer to the bytes of their key frames over that table come to the text
-/// of the clear answer.
+/// The key files and the note of a session spell their frames, where the expander gives seeds and the drawn words are
+/// words.
+pub fn own_sessions_are_spelled()
+    ensures { (e : Meaning) → GivesSeeds e → (s : Session) → IsSession s → AllByRecursion (λ w. w < 2 ^ 64) s.words → IsSpelled e s }
+{
+    round_is_spelled();
+    params_are_few();
+}
+
+/// A session of counts, sums and means ends with the clear answer: for every pure expander, the note of the session and
+/// what both providers answer to the bytes of their key frames over that table come to the text of the clear answer, in
+/// either order.
 pub fn own_sessions_end()
-    ensures { (e : Meaning) → IsPure e → (checked : Checked) (table : TableParts) (params drawn zero one : List ℕ) (texts : List (List ℕ)) → IsTable table → IsWellFormed checked.query
-        → IsCheckedFor checked table.shape.schema → list_all is_sum checked.spec.items ≡ true → params_of_words checked.query table.shape.schema texts ≡ Ok params
-        → sums_bounded table.rows checked.spec.items ≡ Ok tt
-        → KeyFrameOf (key_bytes e Zero checked table.shape params drawn) (key_frame e Zero checked table.shape params drawn)
-        → KeyFrameOf (key_bytes e One checked table.shape params drawn) (key_frame e One checked table.shape params drawn)
-        → NoteOf (note_bytes e checked table.shape params drawn) (note e checked table.shape params drawn)
-        → answered e Zero (key_bytes e Zero checked table.shape params drawn) table ≡ Ok zero → answered e One (key_bytes e One checked table.shape params drawn) table ≡ Ok one
-        → finished (note_bytes e checked table.shape params drawn) zero one ≡ Ok (clear_text checked params table) }
+    ensures in_order { (e : Meaning) → IsPure e → (s : Session) (zero one : List ℕ) → IsSession s → IsSpelled e s → IsAnswer e s Zero zero → IsAnswer e s One one
+        → finished (own_note e s) zero one ≡ Ok (own_text s) }
+    ensures exchanged { (e : Meaning) → IsPure e → (s : Session) (zero one : List ℕ) → IsSession s → IsSpelled e s → IsAnswer e s Zero zero → IsAnswer e s One one
+        → finished (own_note e s) one zero ≡ Ok (own_text s) }
 {
     canonical_text_is_accepted();
     bounded_sums_fit();

@@ -1,5 +1,5 @@
 -- What shares under keys add to.
-use Rattle.std.proofs.Common.{◌≡◌, ℕ, ◌+◌, List, [], ◌∷◌, refl, ap}
+use Rattle.std.proofs.Common.{◌≡◌, ℕ, ◌+◌, List, [], ◌∷◌, refl}
 use Rattle.spl_words.specs.declared.provider.Provider.{Provider}
 use Rattle.spl_words.specs.declared.secret.TreeKind.{TreeKind}
 use Rattle.spl_words.specs.declared.secret.TreeKind.TheVariants.{Point, Threshold}

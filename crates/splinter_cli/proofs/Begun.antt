@@ -1,11 +1,10 @@
 -- What `keys` and `trace` leave, over the round that was begun.
-use Rattle.std.proofs.Common.{◌≡◌, ℕ, List, drop, Option, Some, None, refl, sym, subst, ap, ◌∙◌, arith}
+use Rattle.std.proofs.Common.{◌≡◌, ℕ, List, drop, Option, Some, None, subst, ap, ◌∙◌, arith}
 use Rattle.std.specs.Prelude.{IfSome}
-use Rattle.spl_outside.specs.Content.{FileMap}
+use Rattle.spl_outside.specs.Content.{FileMap, LeftAfter}
 use Rattle.spl_values.specs.Shapes.{ShapeParts}
 use Rattle.seed_expansion.specs.ChaChaExpansion.{chacha}
 use Rattle.query_reader.specs.declared.checked.Checked.{Checked}
-use Rattle.client_rounds.specs.Draws.{LeftAfter}
 use Rattle.client_rounds.specs.Rounds.{words_taken, IsRoundOf}
 use Rattle.client_rounds.specs.declared.starting.RoundOut.{RoundOut}
 use Rattle.command_words.specs.Orders.{KeysOrder}

@@ -1,5 +1,5 @@
 -- What `trace` reads, up to the bounds of its sums.
-use Rattle.std.proofs.Common.{◌≡◌, ℕ, List, [], Option, Some, None, Result, Ok, Err, refl, subst}
+use Rattle.std.proofs.Common.{◌≡◌, [], Option, Some, None, Result, Ok, Err, refl, subst}
 use Rattle.std.specs.Prelude.{IfSome}
 use Rattle.spl_outside.specs.Content.{FileMap}
 use Rattle.spl_words.specs.Results.{◌>>=◌}

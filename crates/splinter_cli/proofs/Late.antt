@@ -1,8 +1,7 @@
 -- What a command owes that stops before it is done.
-use Rattle.std.proofs.Common.{◌≡◌, ℕ, ◌≤◌, List, [], ◌∷◌, drop, Option, Some, None, Result, Ok, Err, refl, sym, subst, inl, inr, arith}
+use Rattle.std.proofs.Common.{◌≡◌, ℕ, List, [], ◌∷◌, drop, Option, Some, None, Result, Ok, Err, refl, sym, subst, arith}
 use Rattle.std.specs.Prelude.{IfSome, IfErr}
-use Rattle.spl_outside.specs.Content.{FileMap}
-use Rattle.client_rounds.specs.Draws.{LeftAfter}
+use Rattle.spl_outside.specs.Content.{FileMap, LeftAfter}
 use Rattle.splinter_status.specs.Phases.{EndsAtFiles, Gives}
 use Rattle.splinter_status.specs.declared.stops.Refusal.{Refusal}
 use Rattle.splinter_status.specs.declared.stops.InputStop.{InputStop}

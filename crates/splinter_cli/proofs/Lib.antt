@@ -1,7 +1,9 @@
 pub mod Begun
 pub mod Bounded
+pub mod ByFiles
 pub mod Combined
 pub mod Cut
+pub mod Done
 pub mod Late
 pub mod Refused
 pub mod SessionsEnd

@@ -8,45 +8,46 @@ use Rattle.key_frames.specs.Notes.{NoteOf}
 use Rattle.answer_frames.specs.declared.answer.AnswerFrame.{AnswerFrame}
 use Rattle.answer_frames.specs.Spelling.{AnswerOf}
 use Rattle.session_model.specs.Answers.{answer_frame}
-use Rattle.session_model.specs.Sessions.{key_frame, key_bytes, round_answer, note, note_bytes, clear_text}
+use Rattle.session_model.specs.Sessions.{key_frame, round_answer, note, clear_text}
 use Rattle.provider_core.specs.Answering.{answered}
 use Rattle.client_rounds.specs.Rounds.{IsRoundOf}
 use Rattle.client_rounds.specs.Finishing.{finished}
 use Rattle.client_rounds.specs.declared.starting.RoundOut.{RoundOut}
+use Rattle.session_laws.specs.Sessions.{IsSpelled, own_key, own_note}
 use Rattle.splinter_cli.specs.declared.trace.Traced.{Traced}
 use Rattle.splinter_cli.specs.Commands.{round_text, trace_text}
+use Rattle.splinter_cli.specs.Sessions.{session_of}
 
 module _ (t : Traced) (words : List ℕ) where
-  -- a provider's key frame in a session with these words drawn, as bytes
-  abbrev pub own_key : Provider → List ℕ
-  own_key p = key_bytes chacha p t.checked t.table.shape t.params words
-
-  -- its answer, as bytes
+  -- a provider's answer, as bytes
   abbrev pub own_answer : Provider → List ℕ
   own_answer p = round_answer chacha p t.checked t.table t.params words
 
   -- and as a frame
   abbrev pub own_frame : Provider → AnswerFrame
-  own_frame p = answer_frame chacha p (own_key p) (key_frame chacha p t.checked t.table.shape t.params words) t.checked t.table
+  own_frame p = answer_frame chacha p (own_key chacha (session_of t words) p) (key_frame chacha p t.checked t.table.shape t.params words) t.checked t.table
 
   -- the bytes of a round of these words
   module _ (round : RoundOut) (of : IsRoundOf chacha t.checked t.table.shape t.params words round) where
-    pub left_is : round.left ≡ own_key Zero
+    pub left_is : round.left ≡ own_key chacha (session_of t words) Zero
     left_is = ap (λ (r : RoundOut). r.left) of.is
 
-    pub right_is : round.right ≡ own_key One
+    pub right_is : round.right ≡ own_key chacha (session_of t words) One
     right_is = ap (λ (r : RoundOut). r.right) of.is
 
-    pub note_is : round.note ≡ note_bytes chacha t.checked t.table.shape t.params words
+    pub note_is : round.note ≡ own_note chacha (session_of t words)
     note_is = ap (λ (r : RoundOut). r.note) of.is
 
-    -- each provider's are those of its frame
-    pub key_of : (p : Provider) → KeyFrameOf (own_key p) (key_frame chacha p t.checked t.table.shape t.params words)
-    key_of Zero = subst (λ (b : List ℕ). KeyFrameOf b (key_frame chacha Zero t.checked t.table.shape t.params words)) left_is of.left
-    key_of One = subst (λ (b : List ℕ). KeyFrameOf b (key_frame chacha One t.checked t.table.shape t.params words)) right_is of.right
+    key_spelled : (p : Provider) → KeyFrameOf (own_key chacha (session_of t words) p) (key_frame chacha p t.checked t.table.shape t.params words)
+    key_spelled Zero = subst (λ (b : List ℕ). KeyFrameOf b (key_frame chacha Zero t.checked t.table.shape t.params words)) left_is of.left
+    key_spelled One = subst (λ (b : List ℕ). KeyFrameOf b (key_frame chacha One t.checked t.table.shape t.params words)) right_is of.right
 
-    pub note_of : NoteOf (note_bytes chacha t.checked t.table.shape t.params words) (note chacha t.checked t.table.shape t.params words)
-    note_of = subst (λ (b : List ℕ). NoteOf b (note chacha t.checked t.table.shape t.params words)) note_is of.note
+    -- they spell its frames
+    pub round_spelled : IsSpelled chacha (session_of t words)
+    round_spelled = record {
+      keys = key_spelled;
+      note = subst (λ (b : List ℕ). NoteOf b (note chacha t.checked t.table.shape t.params words)) note_is of.note;
+    }
 
   -- the text of a session is that of its parts
   pub text_is : (zero one lines result text : List ℕ) → zero ≡ (own_frame Zero).words → one ≡ (own_frame One).words → lines ≡ round_text zero one

@@ -1,5 +1,5 @@
 -- How a step that a provider or a client refuses stops a command.
-use Rattle.std.proofs.Common.{◌≡◌, ◌⊎◌, ℕ, List, Result, Ok, Err, refl, sym, subst, ap, ◌∙◌, inl, inr}
+use Rattle.std.proofs.Common.{◌≡◌, ◌⊎◌, ℕ, List, Result, Err, sym, subst, ap, inl, inr}
 use Rattle.spl_words.specs.declared.provider.Provider.{Provider}
 use Rattle.spl_values.specs.Shapes.{ShapeParts}
 use Rattle.provider_core.specs.declared.fault.ProviderFault.{ProviderFault}
@@ -10,7 +10,6 @@ use Rattle.command_words.specs.Orders.{CombineOrder}
 use Rattle.splinter_status.specs.Phases.{Gives}
 use Rattle.splinter_status.specs.declared.stops.InputStop.{InputStop}
 use Rattle.splinter_status.specs.declared.stops.InputStop.TheVariants as input
-use Rattle.splinter_status.specs.declared.stops.Refusal.{Refusal}
 use Rattle.splinter_cli.specs.Refusals.{ask_refusal, or_ask_refusal, or_provider_refusal, provider_refusal, StopsBy}
 
 pub provider_gives : {X Y : Type 0} (view : X → Y) (p : Provider) (key : List ℕ) (shape : ShapeParts) (f : ProviderFault) (step : Result Y ProviderFault) (s : InputStop)

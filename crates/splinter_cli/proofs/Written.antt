@@ -1,22 +1,20 @@
 -- What a command leaves in the files, and the line of its refusal.
 use Rattle.std.proofs.Common.{◌≡◌, ℕ, List, [], ◌∷◌, ◌++◌, Option, Some, None, Result, Ok, Err, refl, sym, subst, ap, ◌∙◌, inl, inr}
-use Rattle.std.specs.Prelude.{IfSome, IsSomeAnd, IsOk}
+use Rattle.std.specs.Prelude.{IfSome, IsSomeAnd}
 use Rattle.std.specs.FinMap.{insert}
 use Rattle.spl_outside.specs.Content.{FileMap, KeepsOthers}
 use Rattle.command_words.specs.Orders.{Order}
 use Rattle.splinter_status.specs.declared.status.Status.{Status}
-use Rattle.splinter_status.specs.declared.status.Status.TheVariants as status
 use Rattle.splinter_status.specs.declared.stops.Refusal.{Refusal}
 use Rattle.splinter_status.specs.declared.stops.Refusal.TheVariants as refusal
 use Rattle.splinter_status.specs.declared.stops.InputStop.TheVariants as input
 use Rattle.splinter_status.specs.declared.stops.Stopped.{Stopped}
 use Rattle.splinter_status.specs.declared.stops.Stopped.TheVariants as stopped
 use Rattle.splinter_status.specs.Ends.{end_of, line_of_end, line_of_refusal, status_of, Reports}
-use Rattle.splinter_status.proofs.Refusals.{told_none}
 use Rattle.splinter_steps.specs.Writes.{put_all, PutsSome}
 use Rattle.splinter_cli.specs.Commands.{Ready, judged, outputs}
 use Rattle.splinter_cli.specs.Meets.{Meets, Refuses, Leaves}
-use Rattle.splinter_cli.specs.Prints.{Says, WritesSome}
+use Rattle.splinter_cli.specs.Prints.{IsFault, Says, WritesSome}
 
 -- ---- files
 
@@ -59,15 +57,8 @@ some_done T text (Some m) held order (Some ws) left t meets = leaves_all T t (ju
 
 -- ---- lines
 
--- a status that is no refusal's
-abbrev pub is_fault : Status → Type 0
-is_fault status.FileFault = Unit {0}
-is_fault status.DrawFault = Unit {0}
-is_fault status.OutOfMemory = Unit {0}
-is_fault status.OutputFault = Unit {0}
-is_fault s = ⊥
-
-no_fault : (r : Refusal) → is_fault (status_of r) → ⊥
+-- a refusal's status is no fault
+pub no_fault : (r : Refusal) → IsFault (status_of r) → ⊥
 no_fault refusal.Usage h = h
 no_fault (refusal.Query f) h = h
 no_fault (refusal.Param f) h = h
@@ -85,18 +76,18 @@ no_fault (refusal.NotBuilt p) h = h
 -- what stopped a command that is refused, where it ends with the refusal's status, has the refusal's line
 said : (T : Type 0) (s : Stopped) (r : Refusal) → Refuses {T = T} (Err s) (Err r) → end_of s ≡ status_of r → line_of_end s ≡ line_of_refusal r
 said T (stopped.Input (input.Refused q)) r refuses same = let is : r ≡ q = cc in ap line_of_refusal (sym is)
-said T (stopped.Input input.FileFault) r refuses same = absurd (no_fault r (subst is_fault same tt))
-said T (stopped.Input input.OutOfMemory) r refuses same = absurd (no_fault r (subst is_fault same tt))
-said T stopped.DrawFault r refuses same = absurd (no_fault r (subst is_fault same tt))
-said T stopped.FileFault r refuses same = absurd (no_fault r (subst is_fault same tt))
-said T stopped.OutOfMemory r refuses same = absurd (no_fault r (subst is_fault same tt))
+said T (stopped.Input input.FileFault) r refuses same = absurd (no_fault r (subst IsFault same tt))
+said T (stopped.Input input.OutOfMemory) r refuses same = absurd (no_fault r (subst IsFault same tt))
+said T stopped.DrawFault r refuses same = absurd (no_fault r (subst IsFault same tt))
+said T stopped.FileFault r refuses same = absurd (no_fault r (subst IsFault same tt))
+said T stopped.OutOfMemory r refuses same = absurd (no_fault r (subst IsFault same tt))
 
 says_line : (T : Type 0) (ready : Result Ready Refusal) (s : Stopped) (result : Status) (w : List ℕ) (now : Option (List ℕ)) → Refuses {T = T} (Err s) ready
     → Reports w (line_of_end s) (end_of s) result now → Says ready result w now
 says_line T (Ok x) s result w now refuses reports = tt
 says_line T (Err r) s result w now refuses (inl h) = λ same. h.1 ∙ ap (λ (line : List ℕ). Some (w ++ line)) (said T s r refuses (sym h.0 ∙ same))
-says_line T (Err r) s result w now refuses (inr (inl h)) = λ same. absurd (no_fault r (subst is_fault (sym h.0 ∙ same) tt))
-says_line T (Err r) s result w now refuses (inr (inr h)) = λ same. absurd (no_fault r (subst is_fault (sym h.0 ∙ same) tt))
+says_line T (Err r) s result w now refuses (inr (inl h)) = λ same. absurd (no_fault r (subst IsFault (sym h.0 ∙ same) tt))
+says_line T (Err r) s result w now refuses (inr (inr h)) = λ same. absurd (no_fault r (subst IsFault (sym h.0 ∙ same) tt))
 
 -- a refusal's status comes with its line
 pub says_refusal : (T : Type 0) (text : T → List ℕ) (files held : Option FileMap) (order : Option Order) (words left sink : Option (List ℕ)) (s : Stopped) (result : Status) (now : Option (List ℕ))

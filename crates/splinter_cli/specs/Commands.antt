@@ -1,15 +1,12 @@
 -- The commands: what the words and the files come to, what is drawn, what is written and what is printed.
-use Rattle.std.specs.Prelude.{ℕ, ◌+◌, ◌*◌, List, [], ◌∷◌, ◌++◌, length, Option, Some, None, Result, Ok, Err, codes}
+use Rattle.std.specs.Prelude.{ℕ, List, [], ◌∷◌, ◌++◌, Option, Some, None, Result, Ok, Err, codes}
 use Rattle.std.specs.List.{flat_map}
 use Rattle.std.specs.Fmt.{decimal}
 use Rattle.spl_outside.specs.Content.{FileMap}
 use Rattle.spl_words.specs.Results.{◌>>=◌}
 use Rattle.spl_words.specs.declared.provider.Provider.{Provider}
 use Rattle.spl_words.specs.declared.provider.Provider.TheVariants.{Zero, One}
-use Rattle.spl_values.specs.Shapes.{ShapeParts}
-use Rattle.spl_values.specs.Tables.{TableParts}
 use Rattle.seed_expansion.specs.ChaChaExpansion.{chacha}
-use Rattle.query_reader.specs.declared.checked.Checked.{Checked}
 use Rattle.private_plan.specs.Plans.{plan_of}
 use Rattle.session_model.specs.Answers.{answer_words}
 use Rattle.session_model.specs.Sessions.{key_frame, clear_text}

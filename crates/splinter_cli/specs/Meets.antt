@@ -1,7 +1,6 @@
 -- What a command owes up to the text that it prints, where the files are told.
-use Rattle.std.specs.Prelude.{◌≡◌, ℕ, ◌≤◌, List, drop, Option, Some, IfSome, IfOk, IsOk, Result, Ok, Err}
-use Rattle.spl_outside.specs.Content.{FileMap}
-use Rattle.client_rounds.specs.Draws.{LeftAfter}
+use Rattle.std.specs.Prelude.{◌≡◌, ℕ, List, drop, Option, Some, IfSome, IfOk, IsOk, Result, Ok, Err}
+use Rattle.spl_outside.specs.Content.{FileMap, LeftAfter}
 use Rattle.splinter_status.specs.declared.stops.Refusal.{Refusal}
 use Rattle.splinter_status.specs.declared.stops.InputStop.TheVariants as input
 use Rattle.splinter_status.specs.declared.stops.Stopped.{Stopped}

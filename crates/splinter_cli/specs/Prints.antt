@@ -1,5 +1,5 @@
 -- What `run` leaves in the sink and in the files.
-use Rattle.std.specs.Prelude.{◌≡◌, ◌⊎◌, ℕ, List, [], ◌++◌, take, drop, Option, Some, IfSome, Result, Ok, Err}
+use Rattle.std.specs.Prelude.{◌≡◌, ◌⊎◌, ℕ, List, ◌++◌, take, drop, Option, Some, IfSome, Result, Ok, Err}
 use Rattle.spl_outside.specs.Content.{FileMap}
 use Rattle.splinter_status.specs.declared.status.Status.{Status}
 use Rattle.splinter_status.specs.declared.status.Status.TheVariants as status
@@ -41,3 +41,15 @@ Says (Ok x) result before now = Unit {0}
 -- it holds for some name
 abbrev pub Names : (List ℕ → Type 0) → Type 0
 Names P = (name : List ℕ) × P name
+
+-- the files, the draws or the sink failed, or memory was short
+abbrev pub IsFault : Status → Type 0
+IsFault status.FileFault = Unit {0}
+IsFault status.DrawFault = Unit {0}
+IsFault status.OutputFault = Unit {0}
+IsFault status.OutOfMemory = Unit {0}
+IsFault s = ⊥
+
+-- the command is done and its text was appended, unless something failed
+abbrev pub EndsWith : List ℕ → Status → List ℕ → Option (List ℕ) → Type 0
+EndsWith text result before now = ((result ≡ status.Done) × (now ≡ Some (before ++ text))) ⊎ IsFault result

@@ -2,9 +2,6 @@
 ghost use Rattle.std.specs.Prelude.{◌≡◌, Some, Err, IfSome, IfOk, IfErr, IsErrOf, OnOk};
 ghost use Rattle.spl_outside.specs.Causes.{HasCause};
 ghost use Rattle.spl_outside.specs.Content.{KeepsBut};
-ghost use Rattle.seed_expansion.specs.ChaChaExpansion.{chacha};
-ghost use Rattle.client_rounds.specs.Draws.{Draws};
-ghost use Rattle.client_rounds.specs.Rounds.{words_taken, round_out};
 ghost use Rattle.command_words.specs.Orders.{keys};
 ghost use Rattle.command_words.specs.Views.{keys_order};
 ghost use Rattle.splinter_status.specs.Phases.{Gives, StopsAtFiles, EndsAtFiles};
@@ -13,7 +10,7 @@ ghost use Rattle.splinter_status.specs.declared.stops.Stopped.TheVariants as sto
 ghost use Rattle.splinter_steps.specs.Outputs.{IsLate};
 ghost use Rattle.splinter_steps.specs.Writes.{put_all, PutsSome};
 ghost use Rattle.splinter_cli.specs.Commands.{asked, begun_text, keys_ready, keys_names, round_files};
-ghost use Rattle.splinter_cli.specs.Meets.{Meets, IsDrawing};
+ghost use Rattle.splinter_cli.specs.Meets.{Meets};
 ghost use Rattle.splinter_cli.specs.Questions.{IsQuestion};
 
 use crate::rounds::begin;

@@ -8,6 +8,7 @@ mod dispatch;
 mod failing_tests;
 mod host;
 mod keys;
+mod laws;
 #[cfg(test)]
 mod refusal_tests;
 mod refusals;

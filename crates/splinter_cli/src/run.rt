@@ -1,8 +1,9 @@
 //! The top call.
-ghost use Rattle.std.specs.Prelude.{◌≡◌, ◌≢◌, ◌⊎◌, ◌++◌, ℕ, List, IfSome, IsErr, IsOk, map, Some, None, Err};
+ghost use Rattle.std.specs.Prelude.{◌≡◌, ◌≢◌, ◌++◌, ℕ, ◌<◌, ◌^◌, List, IfSome, IsErr, IsOk, map, Some, None, Ok, Err};
+ghost use Rattle.std.specs.List.{AllByRecursion};
 ghost use Rattle.std.specs.String.{string_bytes};
 ghost use Rattle.spl_outside.specs.Causes.{HasCause};
-ghost use Rattle.spl_outside.specs.Content.{KeepsBut};
+ghost use Rattle.spl_outside.specs.Content.{KeepsBut, LeftAfter};
 ghost use Rattle.spl_words.specs.declared.differ.Differ.{Differ as TheDiffer};
 ghost use Rattle.spl_words.specs.declared.provider.Provider.{Provider as TheProvider};
 ghost use Rattle.spl_words.specs.declared.fault.FrameFault.{FrameFault};
@@ -16,10 +17,12 @@ ghost use Rattle.query_reader.specs.declared.params.ParamFault.TheVariants as pa
 ghost use Rattle.csv_tables.specs.declared.fault.TableFault.{TableFault};
 ghost use Rattle.csv_tables.specs.declared.fault.TableFault.TheVariants as table;
 ghost use Rattle.sum_bounds.specs.declared.AtRow.{AtRow};
-ghost use Rattle.client_rounds.specs.Draws.{LeftAfter};
+ghost use Rattle.session_laws.specs.Sessions.{Session, IsSession, own_text};
 ghost use Rattle.command_words.specs.Forms.{form_of};
-ghost use Rattle.splinter_cli.specs.Commands.{draws, judged, names_of};
-ghost use Rattle.splinter_cli.specs.Prints.{Cuts, Names, Prints, Says, Writes, WritesSome};
+ghost use Rattle.command_words.specs.Orders.{CombineOrder, combine};
+ghost use Rattle.splinter_cli.specs.Commands.{Ready, draws, judged, names_of, printed};
+ghost use Rattle.splinter_cli.specs.Prints.{Cuts, EndsWith, Names, Prints, Says, Writes, WritesSome};
+ghost use Rattle.splinter_cli.specs.Sessions.{HoldsSession};
 ghost use Rattle.splinter_status.specs.Ends.{ComesExactlyWhere, ComesWhereRead, EndsAs, Reports};
 ghost use Rattle.splinter_status.specs.Texts.{HasLine, line_of};
 ghost use Rattle.splinter_status.specs.declared.status.Part.{Part};
@@ -27,6 +30,7 @@ ghost use Rattle.splinter_status.specs.declared.status.Part.TheVariants as part;
 ghost use Rattle.splinter_status.specs.declared.stops.Refusal.TheVariants as refusal;
 
 use crate::dispatch::carry_out;
+use crate::laws::own_sessions_are_combined;
 use share_eval::Gate;
 use spl_outside::{Draw, Files, Sink};
 use splinter_status::{Status, print, refuse};
@@ -79,8 +83,8 @@ pub fn run<T: Threads + Sync, F: Files, R: Draw, O: Sink, G: Gate + Sync>(
     ensures not_built { IfSome (F.held files.old) (λ m. (p : Part) → ComesWhereRead (judged (form_of (map string_bytes words.now.items)) m ≡ Err (refusal.NotBuilt p)) (Status.NotBuilt p) result) }
     ensures undrawn { IfSome (F.held files.old) (λ m. IsErr (judged (form_of (map string_bytes words.now.items)) m) → draw.new ≡ draw.old) }
 
-    // What never comes: a part that has only forms that are built, and want of memory inside a fault.
-    ensures only_query_and_plan { (p : Part) → result ≡ Status.NotBuilt p → (p ≡ part.Query) ⊎ (p ≡ part.Plan) }
+    // What never comes: a part but a plan that isn't built, and want of memory inside a fault.
+    ensures only_plan { (p : Part) → result ≡ Status.NotBuilt p → p ≡ part.Plan }
     ensures never_inside_query { result ≢ Status.Query query.OutOfMemory }
     ensures never_inside_param { result ≢ Status.Param param.OutOfMemory }
     ensures never_inside_shape { result ≢ Status.Shape shape.OutOfMemory }
@@ -92,6 +96,13 @@ pub fn run<T: Threads + Sync, F: Files, R: Draw, O: Sink, G: Gate + Sync>(
     ensures draw_fault { HasCause (R.faults draw.old) (R.faults draw.new) (result ≡ Status.DrawFault) }
     ensures output_fault { HasCause (O.faults out.old) (O.faults out.new) (result ≡ Status.OutputFault) }
     ensures late_draw { result ≡ Status.DrawFault → IfSome (F.held files.old) (λ m. IsOk (judged (form_of (map string_bytes words.now.items)) m)) }
+
+    // Where nothing refuses, and in a session whose note and answers the files hold, where nothing fails.
+    ensures ready { IfSome (F.held files.old) (λ m. IfSome (R.words draw.old) (λ ws. IfSome (O.written out.old) (λ w.
+        (x : Ready) → judged (form_of (map string_bytes words.now.items)) m ≡ Ok x → EndsWith (printed x ws) result w (O.written out.new)))) }
+    ensures session { IfSome (F.held files.old) (λ m. IfSome (R.words draw.old) (λ ws. IfSome (O.written out.old) (λ w.
+        (s : Session) (o : CombineOrder) → form_of (map string_bytes words.now.items) ≡ Some (combine o) → IsSession s → AllByRecursion (λ x. x < 2 ^ 64) s.words → HoldsSession s o m
+        → EndsWith (own_text s) result w (O.written out.new)))) }
 
     // What is printed and written.
     ensures done { result ≡ Status.Done → IfSome (F.held files.old) (λ m. IfSome (R.words draw.old) (λ ws. IfSome (O.written out.old) (λ w.
@@ -109,6 +120,7 @@ pub fn run<T: Threads + Sync, F: Files, R: Draw, O: Sink, G: Gate + Sync>(
     ensures drawn { IfSome (F.held files.old) (λ m. IfSome (R.words draw.old) (λ ws.
         LeftAfter (draws (judged (form_of (map string_bytes words.now.items)) m)) ws (R.words draw.new))) }
 {
+    own_sessions_are_combined();
     match carry_out(rt, alloc, words, files, draw, gate) {
         Ok(text) => print_text(alloc, out, &text),
         Err(stopped) => refuse(alloc, out, stopped),

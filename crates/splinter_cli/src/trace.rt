@@ -8,7 +8,7 @@ ghost use Rattle.command_words.specs.Views.{trace_order, IsWorkers};
 ghost use Rattle.splinter_status.specs.Phases.{Gives, StopsAtFiles, EndsAtFiles};
 ghost use Rattle.splinter_status.specs.declared.stops.InputStop.TheVariants as input;
 ghost use Rattle.splinter_status.specs.declared.stops.Stopped.TheVariants as stopped;
-ghost use Rattle.splinter_cli.specs.Commands.{trace_ready, trace_text, traced};
+ghost use Rattle.splinter_cli.specs.Commands.{trace_ready, traced};
 ghost use Rattle.splinter_cli.specs.Meets.{Meets};
 ghost use Rattle.splinter_cli.specs.Questions.{IsTraced};
 ghost use Rattle.splinter_cli.specs.Refusals.{or_provider_refusal};

@@ -38,7 +38,7 @@ Gives view (Err (input.Refused r)) step = step ≡ Err r
 Gives view (Err input.FileFault) step = Unit {0}
 Gives view (Err input.OutOfMemory) step = Unit {0}
 
--- a refusal of what files hold: the words form a command, no fault in it is want of memory, and of all parts only a query and a plan can have a form that isn't built
+-- a refusal of what files hold: the words form a command, no fault in it is want of memory, and of all parts only a plan can have a form that isn't built
 abbrev pub IsOfFiles : Refusal → Type 0
 IsOfFiles refusal.Usage = ⊥
 IsOfFiles (refusal.Query query.OutOfMemory) = ⊥
@@ -48,6 +48,7 @@ IsOfFiles (refusal.Table table.OutOfMemory) = ⊥
 IsOfFiles (refusal.Frame name frame.OutOfMemory) = ⊥
 IsOfFiles (refusal.NotBuilt part.Table) = ⊥
 IsOfFiles (refusal.NotBuilt part.Shape) = ⊥
+IsOfFiles (refusal.NotBuilt part.Query) = ⊥
 IsOfFiles (refusal.NotBuilt part.Parameter) = ⊥
 IsOfFiles _ = Unit {0}
 

@@ -1,7 +1,7 @@
 -- What writing files leaves, one file at a time.
-use Rattle.std.proofs.Common.{◌≡◌, ◌≢◌, ℕ, zero, suc, ◌+◌, ◌<◌, List, [], ◌∷◌, Option, Some, None, Result, refl, sym, subst, inl, inr, arith, slice_index_or, ◌∙◌}
-use Rattle.std.specs.Prelude.{IfSome, IsSomeAnd, OnOk, Contains}
-use Rattle.std.specs.FinMap.{get, insert}
+use Rattle.std.proofs.Common.{◌≡◌, ℕ, zero, suc, ◌<◌, List, [], ◌∷◌, Option, Some, None, Result, sym, subst, inl, inr, arith, slice_index_or, ◌∙◌}
+use Rattle.std.specs.Prelude.{IfSome, IsSomeAnd, OnOk}
+use Rattle.std.specs.FinMap.{insert}
 use Rattle.spl_outside.specs.Content.{FileMap, KeepsOthers, KeepsBut}
 use Rattle.spl_outside.proofs.Lookup.{insert_keeps}
 use Rattle.splinter_steps.specs.Writes.{put_all, PutsSome}

@@ -1,8 +1,8 @@
 -- What a query and its parameters ask of a table.
-use Rattle.std.specs.Prelude.{◌≡◌, ◌^◌, ℕ, true, List, length, Option, Some, None, Result, Ok, Err}
+use Rattle.std.specs.Prelude.{◌≡◌, ℕ, true, List, Result, Ok, Err}
 use Rattle.std.specs.List.{list_all}
 use Rattle.spl_words.specs.Results.{◌>>=◌}
-use Rattle.spl_values.specs.Shapes.{SchemaParts, ShapeParts}
+use Rattle.spl_values.specs.Shapes.{ShapeParts}
 use Rattle.query_parser.specs.declared.fault.QueryFault.{QueryFault}
 use Rattle.query_reader.specs.Accepted.{IsCheckedFor}
 use Rattle.query_reader.specs.Params.{AreParamsFor, params_of_words}

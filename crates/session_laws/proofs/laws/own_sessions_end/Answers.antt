@@ -1,7 +1,12 @@
-use Rattle.session_laws.proofs.Ended.{own_end}
+use Rattle.session_laws.proofs.Ended.{own_end, own_end_exchanged}
 use Rattle.session_laws.proofs.laws.own_sessions_end.Goals as goal
 
-pub returns : goal.returns
-returns c = λ e pure checked table params drawn zero one texts valid form accepted sums given bounded left right noted first second.
-    own_end e checked table params drawn valid pure zero one texts form accepted sums given bounded (c.bounded_sums_fit.ensures checked table valid accepted bounded)
-    (c.canonical_text_is_accepted.ensures checked table.shape.schema form accepted) left right noted first second
+pub returns-clause-in_order : goal.returns-clause-in_order
+returns-clause-in_order c = λ e pure s zero one is spelled first second.
+    own_end e s zero one is spelled (c.canonical_text_is_accepted.ensures s.checked s.table.shape.schema is.form is.accepted) first second pure
+    (c.bounded_sums_fit.ensures s.checked s.table is.table is.accepted is.bounded)
+
+pub returns-clause-exchanged : goal.returns-clause-exchanged
+returns-clause-exchanged c = λ e pure s zero one is spelled first second.
+    own_end_exchanged e s zero one is spelled (c.canonical_text_is_accepted.ensures s.checked s.table.shape.schema is.form is.accepted) first second pure
+    (c.bounded_sums_fit.ensures s.checked s.table is.table is.accepted is.bounded)

@@ -1,4 +1,4 @@
-use Rattle.std.proofs.Common.{ℕ, List, Err, sym, ap, ◌∙◌}
+use Rattle.std.proofs.Common.{Err, ap, ◌∙◌}
 use Rattle.std.proofs.lemmas.Result.{err_from_is_err_and}
 use Rattle.splinter_status.specs.declared.stops.InputStop.{InputStop}
 use Rattle.command_words.specs.Views.{combine_order}

@@ -10,6 +10,7 @@ use Rattle.splinter_status.specs.declared.status.Part.{Part}
 use Rattle.splinter_status.specs.declared.stops.Refusal.TheVariants as refusal
 use Rattle.splinter_status.specs.declared.stops.Stopped.{Stopped}
 use Rattle.splinter_cli.proofs.Cut.{cut_stopped, drawn_stopped}
+use Rattle.splinter_cli.proofs.Done.{ready_done, ready_stopped, session_ends}
 use Rattle.splinter_cli.proofs.Refused.{both_come, each_comes, early_where, sums_come}
 use Rattle.splinter_cli.proofs.Written.{says_refusal, some_done, some_stopped}
 use Rattle.splinter_cli.proofs.run.run.Goals as goal
@@ -103,3 +104,26 @@ pub returns-in-Ok-clause-writes_some : goal.returns-in-Ok-clause-writes_some
 returns-in-Ok-clause-writes_some g c =
     let meets = rw c.deref.ensures.value at c.in-Ok.ensures.told in
     some_done _ _ _ _ _ _ _ _ meets
+
+pub returns-in-Err-clause-others : goal.returns-in-Err-clause-others
+returns-in-Err-clause-others g c = rw c.deref.ensures.value at c.in-Err.ensures.others
+
+pub returns-in-Err-clause-ready : goal.returns-in-Err-clause-ready
+returns-in-Err-clause-ready g c =
+    let meets = rw c.deref.ensures.value at c.in-Err.ensures.told in
+    ready_stopped _ _ _ _ _ _ _ _ _ _ _ meets c.refuse.ensures.ends
+
+pub returns-in-Ok-clause-ready : goal.returns-in-Ok-clause-ready
+returns-in-Ok-clause-ready g c =
+    let meets = rw c.deref.ensures.value at c.in-Ok.ensures.told in
+    ready_done _ _ _ _ _ _ _ _ _ _ _ _ meets c.deref-in-Ok.ensures.value c.print_text.ensures.told
+
+pub returns-in-Err-clause-session : goal.returns-in-Err-clause-session
+returns-in-Err-clause-session g c =
+    let meets = rw c.deref.ensures.value at c.in-Err.ensures.told in
+    session_ends _ _ _ _ _ _ c.own_sessions_are_combined.ensures (ready_stopped _ _ _ _ _ _ _ _ _ _ _ meets c.refuse.ensures.ends)
+
+pub returns-in-Ok-clause-session : goal.returns-in-Ok-clause-session
+returns-in-Ok-clause-session g c =
+    let meets = rw c.deref.ensures.value at c.in-Ok.ensures.told in
+    session_ends _ _ _ _ _ _ c.own_sessions_are_combined.ensures (ready_done _ _ _ _ _ _ _ _ _ _ _ _ meets c.deref-in-Ok.ensures.value c.print_text.ensures.told)
