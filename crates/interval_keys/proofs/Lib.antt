@@ -3,7 +3,6 @@ pub mod IntervalLaw
 pub mod OneLevel
 pub mod Made
 pub mod Merging
-pub mod Rising
 pub mod SlotEnds
 pub mod SlotSteps
 pub mod SlotLaws

@@ -3,11 +3,12 @@ use Rattle.std.proofs.Common.{◌≡◌, ℕ, ◌+◌, ◌<◌, ◌≤◌, min, 
 use Rattle.std.specs.List.{filter, list_any, AllByRecursion}
 use Rattle.std.proofs.lemmas.Bool.{cases_Bool, cases_lt, false≢true, eqb-true, eq-eqb, or_cases, or_parts, or_left, or_right}
 use Rattle.std.proofs.lemmas.Bool.Decides.{nat_tests}
+use Rattle.spl_words.specs.Rising.{among}
+use Rattle.spl_words.proofs.Rising.{Rises, any-rising, increases, Rises-rising, same_rising}
 use Rattle.interval_keys.specs.Intervals.{Span}
-use Rattle.interval_keys.specs.Slots.{IsSpan, ListsInOrder, among, held, holds, is_end, is_start, joined, joins, starts, ends, spans_between}
+use Rattle.interval_keys.specs.Slots.{IsSpan, ListsInOrder, held, holds, is_end, is_start, joined, joins, starts, ends, spans_between}
 use Rattle.interval_keys.specs.Merging.{add_spans}
 use Rattle.interval_keys.proofs.Merging.{Separated, same_bool, each_weaker, valid-add_spans, Separated-add_spans, each-add_spans, joined-add_spans, held-add_spans}
-use Rattle.interval_keys.proofs.Rising.{Rises, any-rising, increases, Rises-rising, same_rising}
 
 abbrev pub los : List Span → List ℕ
 los l = map (λ s. s.lo) l

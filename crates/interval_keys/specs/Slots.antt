@@ -1,7 +1,8 @@
 -- Slots: what the intervals of some branches hold, as disjoint intervals in rising order.
-use Rattle.std.specs.Prelude.{◌≡◌, ℕ, ◌+◌, ◌-◌, ◌≤◌, Bool, not, nat_lt, nat_le, ◌==◌, ◌&&◌, if◌then◌else◌, List, [], ◌∷◌, ◌++◌, length, map, filter, replicate, All, Option, None, Some, IfSome}
+use Rattle.std.specs.Prelude.{◌≡◌, ℕ, ◌+◌, ◌-◌, ◌≤◌, Bool, not, nat_lt, nat_le, ◌==◌, ◌&&◌, List, [], ◌∷◌, ◌++◌, length, map, filter, replicate, All, Option, None, Some, IfSome}
 use Rattle.std.specs.List.{list_any}
 use Rattle.std.specs.List.Sorted.{IsStrictlyIncreasing}
+use Rattle.spl_words.specs.Rising.{among, rising}
 use Rattle.interval_keys.specs.Intervals.{Span}
 
 -- an interval that holds a number
@@ -28,10 +29,6 @@ joins x s = nat_lt s.lo x && nat_le x s.hi
 abbrev pub joined : List Span → ℕ → Bool
 joined l x = list_any (joins x) l
 
--- whether x stands in a list
-abbrev pub among : List ℕ → ℕ → Bool
-among l x = list_any (λ y. y == x) l
-
 -- whether x is a lower end that no interval holds together with the number before it
 abbrev pub is_start : List Span → ℕ → Bool
 is_start l x = among (map (λ s. s.lo) l) x && not (joined l x)
@@ -39,16 +36,6 @@ is_start l x = among (map (λ s. s.lo) l) x && not (joined l x)
 -- whether x is an upper end that no interval holds together with the number after it
 abbrev pub is_end : List Span → ℕ → Bool
 is_end l x = among (map (λ s. s.hi) l) x && not (joined l (x + 1))
-
--- a number put into rising ones, unless it stands there
-unfoldable pub put_number : ℕ → List ℕ → List ℕ
-put_number x [] = x ∷ []
-put_number x (y ∷ ys) = if nat_lt x y then x ∷ y ∷ ys else if x == y then y ∷ ys else y ∷ put_number x ys
-
--- the numbers of a list in rising order, each once
-unfoldable pub rising : List ℕ → List ℕ
-rising [] = []
-rising (x ∷ xs) = put_number x (rising xs)
 
 -- a list that rises and holds the numbers that pass, and no other
 pub record ListsInOrder (p : ℕ → Bool) (l : List ℕ) : Type 0 where

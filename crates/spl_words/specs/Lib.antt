@@ -2,3 +2,4 @@ pub mod Words
 pub mod Secrets
 pub mod Cursor
 pub mod Results
+pub mod Rising

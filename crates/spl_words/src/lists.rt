@@ -6,6 +6,7 @@ ghost use Rattle.std.specs.Cmp.Lexicographic.{nat_list_eq_equiv};
 
 use std::alloc::{AllocError, Global};
 use std::marker::Model;
+use std::mem;
 
 /// A list of words.
 #[derive(Debug, Drop)]
@@ -60,6 +61,15 @@ impl Words {
     {
         let Words { items } = self;
         items
+    }
+
+    /// The items as a vector. The list is left empty, and nothing is allocated.
+    pub fn take(&mut self) -> Vec<u64>
+        ensures items { result.items ≡ self.old }
+        ensures left { self.new ≡ [] }
+    {
+        let alloc = *self.items.allocator();
+        mem::replace(&mut self.items, Vec::new(alloc))
     }
 }
 
@@ -140,6 +150,15 @@ impl Numbers {
     {
         let Numbers { items } = self;
         items
+    }
+
+    /// The items as a vector. The list is left empty, and nothing is allocated.
+    pub fn take(&mut self) -> Vec<u128>
+        ensures items { result.items ≡ self.old }
+        ensures left { self.new ≡ [] }
+    {
+        let alloc = *self.items.allocator();
+        mem::replace(&mut self.items, Vec::new(alloc))
     }
 }
 

@@ -55,6 +55,8 @@ fn lists_hold_their_items(rt: HostRuntime) -> Result<(), Fail> {
     words.push(7)?;
     assert!(rt; words.clone()? == Words::from_vec([7].to_vec(rt.alloc())?));
     assert_eq!(rt; words.as_slice(), [7].as_slice());
+    assert_eq!(rt; words.take().as_slice(), [7].as_slice());
+    assert!(rt; words.as_slice().is_empty());
     let mut numbers = Numbers::new(rt.alloc());
     numbers.push(u128::MAX)?;
     assert!(rt; numbers.clone()? != Numbers::new(rt.alloc()));

@@ -3,7 +3,7 @@ use Rattle.std.proofs.Common.{◌≡◌, ℕ, zero, suc, ◌+◌, ◌<◌, ◌�
 use Rattle.std.specs.List.{list_any, AllByRecursion}
 use Rattle.std.specs.List.Sorted.{IsStrictlyIncreasing}
 use Rattle.std.proofs.lemmas.Bool.{cases_lt, cases_order, cond-true, cond-false, false≢true, lt-ltb, le-ltb, eq-eqb, ne_eqb}
-use Rattle.interval_keys.specs.Slots.{among, put_number, rising}
+use Rattle.spl_words.specs.Rising.{among, put_number, rising}
 
 -- each number is below all that stand behind it
 abbrev pub Rises : List ℕ → Type 0
