@@ -9,9 +9,9 @@ use Rattle.splinter_status.specs.declared.stops.Stopped.TheVariants as stopped
 use Rattle.std.specs.Prelude.{IfSome}
 use Rattle.spl_outside.specs.Content.{FileMap, LeftAfter}
 use Rattle.command_words.specs.Orders.{Order}
-use Rattle.splinter_cli.specs.Commands.{Ready, judged, draws}
+use Rattle.splinter_commands.specs.Commands.{Ready, judged, draws}
 use Rattle.splinter_status.specs.Ends.{end_of, line_of_end, line_of_refusal, Reports}
-use Rattle.splinter_cli.specs.Meets.{Meets, Refuses}
+use Rattle.splinter_commands.specs.Meets.{Meets, Refuses}
 use Rattle.splinter_cli.specs.Prints.{MayPrint, Cuts}
 
 -- the line of what stopped the command may be printed, but where it was memory

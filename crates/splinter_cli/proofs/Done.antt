@@ -11,10 +11,10 @@ use Rattle.splinter_status.specs.declared.stops.InputStop.TheVariants as input
 use Rattle.splinter_status.specs.declared.stops.Stopped.{Stopped}
 use Rattle.splinter_status.specs.declared.stops.Stopped.TheVariants as stopped
 use Rattle.splinter_status.specs.Ends.{end_of, EndsAs, Reports}
-use Rattle.splinter_cli.specs.Commands.{Ready, combine_ready, combined, judged, printed}
-use Rattle.splinter_cli.specs.Meets.{Meets, Refuses}
+use Rattle.splinter_commands.specs.Commands.{Ready, combine_ready, combined, judged, printed}
+use Rattle.splinter_commands.specs.Meets.{Meets, Refuses}
+use Rattle.splinter_commands.specs.Sessions.{HoldsSession}
 use Rattle.splinter_cli.specs.Prints.{EndsWith, IsFault}
-use Rattle.splinter_cli.specs.Sessions.{HoldsSession}
 
 -- a fault that can't be told either is a fault
 fault_ends : (ended result : Status) → IsFault ended → EndsAs ended result → IsFault result

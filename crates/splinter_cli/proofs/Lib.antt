@@ -1,11 +1,4 @@
-pub mod Begun
-pub mod Bounded
-pub mod ByFiles
-pub mod Combined
-pub mod Cut
-pub mod Done
-pub mod Late
-pub mod Refused
-pub mod SessionsEnd
-pub mod Stops
-pub mod Written
+mod Cut
+mod Done
+mod Refused
+mod Written

@@ -14,8 +14,8 @@ use Rattle.splinter_status.specs.declared.stops.Stopped.TheVariants as stopped
 use Rattle.splinter_status.specs.Ends.{end_of, status_of, EndsAs, ComesWhereRead}
 use Rattle.splinter_status.proofs.Refusals.{IsNoSum, told_once, told_none}
 use Rattle.command_words.specs.Orders.{Order}
-use Rattle.splinter_cli.specs.Commands.{Ready, judged}
-use Rattle.splinter_cli.specs.Meets.{Meets, Refuses}
+use Rattle.splinter_commands.specs.Commands.{Ready, judged}
+use Rattle.splinter_commands.specs.Meets.{Meets, Refuses}
 use Rattle.splinter_cli.specs.Prints.{Names}
 
 -- what stopped the command has this status: it is this refusal

@@ -1,8 +1,8 @@
 -- What a command leaves in the files, and the line of its refusal.
 use Rattle.std.proofs.Common.{◌≡◌, ℕ, List, [], ◌∷◌, ◌++◌, Option, Some, None, Result, Ok, Err, refl, sym, subst, ap, ◌∙◌, inl, inr}
-use Rattle.std.specs.Prelude.{IfSome, IsSomeAnd}
+use Rattle.std.specs.Prelude.{IfSome}
 use Rattle.std.specs.FinMap.{insert}
-use Rattle.spl_outside.specs.Content.{FileMap, KeepsOthers}
+use Rattle.spl_outside.specs.Content.{FileMap}
 use Rattle.command_words.specs.Orders.{Order}
 use Rattle.splinter_status.specs.declared.status.Status.{Status}
 use Rattle.splinter_status.specs.declared.stops.Refusal.{Refusal}
@@ -12,8 +12,9 @@ use Rattle.splinter_status.specs.declared.stops.Stopped.{Stopped}
 use Rattle.splinter_status.specs.declared.stops.Stopped.TheVariants as stopped
 use Rattle.splinter_status.specs.Ends.{end_of, line_of_end, line_of_refusal, status_of, Reports}
 use Rattle.splinter_steps.specs.Writes.{put_all, PutsSome}
-use Rattle.splinter_cli.specs.Commands.{Ready, judged, outputs}
-use Rattle.splinter_cli.specs.Meets.{Meets, Refuses, Leaves}
+use Rattle.splinter_commands.specs.Commands.{Ready, judged, outputs}
+use Rattle.splinter_commands.specs.Meets.{Meets, Refuses, Leaves}
+use Rattle.splinter_commands.proofs.Late.{none_some}
 use Rattle.splinter_cli.specs.Prints.{IsFault, Says, WritesSome}
 
 -- ---- files
@@ -23,12 +24,6 @@ all_some : (os : List (List ℕ × List ℕ)) (m : FileMap) (now : Option FileMa
 unfolding put_all PutsSome
 all_some [] m now is = is
 all_some (o ∷ os) m now is = inr (all_some os (insert m o.0 o.1) now is)
-
--- where none was written, no more than some were
-pub none_some : (os : List (List ℕ × List ℕ)) (m : FileMap) (now : Option FileMap) → now ≡ Some m → PutsSome os m now
-unfolding PutsSome
-none_some [] m now is = is
-none_some (o ∷ os) m now is = inl (subst (λ k. IsSomeAnd k (KeepsOthers m o.0)) (sym is) (λ q other. refl))
 
 leaves_some : (T : Type 0) (s : Stopped) (ready : Result Ready Refusal) (words : List ℕ) (m : FileMap) (held : Option FileMap) → Leaves {T = T} (Err s) ready words m held → WritesSome ready words m held
 leaves_some T s (Err r) words m held h = h

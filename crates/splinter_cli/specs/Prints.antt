@@ -7,7 +7,7 @@ use Rattle.splinter_status.specs.declared.stops.Refusal.{Refusal}
 use Rattle.splinter_status.specs.Ends.{line_of_refusal, status_of}
 use Rattle.splinter_status.specs.Texts.{line_of}
 use Rattle.splinter_steps.specs.Writes.{put_all, PutsSome}
-use Rattle.splinter_cli.specs.Commands.{Ready, draws, outputs, printed}
+use Rattle.splinter_commands.specs.Commands.{Ready, draws, outputs, printed}
 
 -- the text of the command was appended, its words were drawn, and its files were written
 abbrev pub Prints : Result Ready Refusal → List ℕ → Option (List ℕ) → List ℕ → Option (List ℕ) → Type 0

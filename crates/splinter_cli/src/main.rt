@@ -1,25 +1,16 @@
 //! Private SQL over two providers: the command line.
 #![tactic(auto)]
 
-mod answer;
-mod combine;
-mod dispatch;
 #[cfg(test)]
 mod failing_tests;
 mod host;
-mod keys;
-mod laws;
 #[cfg(test)]
 mod refusal_tests;
-mod refusals;
-mod rounds;
 mod run;
 #[cfg(test)]
 mod session_tests;
-mod sessions;
 #[cfg(test)]
 mod testing;
-mod trace;
 #[cfg(test)]
 mod trace_tests;
 

@@ -1,0 +1,7 @@
+pub mod Late
+mod Begun
+mod Bounded
+mod ByFiles
+mod Combined
+mod SessionsEnd
+mod Stops

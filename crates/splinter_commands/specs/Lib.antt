@@ -1,0 +1,5 @@
+pub mod Refusals
+pub mod Questions
+pub mod Commands
+pub mod Meets
+pub mod Sessions

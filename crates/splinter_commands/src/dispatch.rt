@@ -1,0 +1,75 @@
+//! From the words to the command that they mean.
+ghost use Rattle.std.specs.Prelude.{◌≡◌, ◌⊎◌, Err, IfSome, IfErr, IfNone, IsErrOf, map};
+ghost use Rattle.std.specs.String.{string_bytes};
+ghost use Rattle.spl_outside.specs.Causes.{HasCause};
+ghost use Rattle.spl_outside.specs.Content.{KeepsBut};
+ghost use Rattle.command_words.specs.Forms.{form_of};
+ghost use Rattle.command_words.specs.Views.{order, IsInBounds};
+ghost use Rattle.splinter_commands.specs.Commands.{judged, names_of, output_names, ready_of};
+ghost use Rattle.splinter_commands.specs.Meets.{Meets};
+ghost use Rattle.splinter_status.specs.Phases.{EndsAtFiles};
+ghost use Rattle.splinter_status.specs.declared.stops.InputStop.TheVariants as input;
+ghost use Rattle.splinter_status.specs.declared.stops.Refusal.TheVariants as refusal;
+ghost use Rattle.splinter_status.specs.declared.stops.Stopped.TheVariants as stopped;
+
+use crate::answer::answer;
+use crate::combine::combine;
+use crate::keys::keys;
+use crate::trace::trace;
+use command_words::{Command, FormFault, command_of};
+use share_eval::Gate;
+use spl_outside::{Draw, Files};
+use splinter_status::{InputStop, Refusal, Stopped};
+use std::alloc::Global;
+use std::thread::Threads;
+
+/// Runs a command, up to the text that it prints.
+pub fn dispatch<T: Threads + Sync, F: Files, R: Draw, G: Gate + Sync>(
+    rt: &T,
+    alloc: Global,
+    command: &Command<'_>,
+    files: &mut F,
+    draw: &mut R,
+    gate: &G,
+) -> Result<Vec<u8>, Stopped>
+    requires { IsInBounds command.now }
+    ensures told { IfSome (F.held files.old) (λ m. Meets (λ text. text.items) (ready_of (order command.now) m) m (F.held files.new) (R.words draw.old) (R.words draw.new) result) }
+    ensures others { IfSome (F.held files.old) (λ m. KeepsBut (output_names (order command.now)) m (F.held files.new)) }
+    ensures refusals { IfErr result EndsAtFiles }
+    ensures untouched { (s : _) → result ≡ Err (stopped.Input s) → (draw.new ≡ draw.old) × (F.held files.new ≡ F.held files.old) }
+    ensures file_fault { HasCause (F.faults files.old) (F.faults files.new) (IsErrOf result (stopped.Input input.FileFault)) }
+    ensures late_fault { HasCause (F.faults files.old) (F.faults files.new) (IsErrOf result Stopped.FileFault) }
+    ensures draw { HasCause (R.faults draw.old) (R.faults draw.new) (IsErrOf result Stopped.DrawFault) }
+{
+    match command {
+        Command::Trace(words) => trace(rt, alloc, files, draw, words, gate),
+        Command::Keys(words) => keys(alloc, files, draw, words),
+        Command::Answer(words) => answer(rt, alloc, files, words, gate),
+        Command::Combine(words) => combine(alloc, files, words),
+    }
+}
+
+/// The command that the words mean, up to the text that it prints.
+pub fn carry_out<T: Threads + Sync, F: Files, R: Draw, G: Gate + Sync>(
+    rt: &T,
+    alloc: Global,
+    words: &[String],
+    files: &mut F,
+    draw: &mut R,
+    gate: &G,
+) -> Result<Vec<u8>, Stopped>
+    ensures told { IfSome (F.held files.old) (λ m. Meets (λ text. text.items) (judged (form_of (map string_bytes words.now)) m) m (F.held files.new) (R.words draw.old) (R.words draw.new) result) }
+    ensures no_command { IfNone (form_of (map string_bytes words.now)) (((result ≡ Err (stopped.Input (input.Refused refusal.Usage))) ⊎ (result ≡ Err (stopped.Input input.OutOfMemory))) × (files.new ≡ files.old)) }
+    ensures command { IfSome (form_of (map string_bytes words.now)) (λ _. IfErr result EndsAtFiles) }
+    ensures others { IfSome (F.held files.old) (λ m. KeepsBut (names_of (form_of (map string_bytes words.now))) m (F.held files.new)) }
+    ensures untouched { (s : _) → result ≡ Err (stopped.Input s) → (draw.new ≡ draw.old) × (F.held files.new ≡ F.held files.old) }
+    ensures file_fault { HasCause (F.faults files.old) (F.faults files.new) (IsErrOf result (stopped.Input input.FileFault)) }
+    ensures late_fault { HasCause (F.faults files.old) (F.faults files.new) (IsErrOf result Stopped.FileFault) }
+    ensures draw { HasCause (R.faults draw.old) (R.faults draw.new) (IsErrOf result Stopped.DrawFault) }
+{
+    match command_of(alloc, words) {
+        Ok(command) => dispatch(rt, alloc, &command, files, draw, gate),
+        Err(FormFault::Usage) => Err(Stopped::Input(InputStop::Refused(Refusal::Usage))),
+        Err(FormFault::OutOfMemory) => Err(Stopped::Input(InputStop::OutOfMemory)),
+    }
+}

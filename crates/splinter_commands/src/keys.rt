@@ -1,0 +1,117 @@
+//! The command `keys`: it begins a session, and writes the note and both key files.
+ghost use Rattle.std.specs.Prelude.{◌≡◌, Some, Err, IfSome, IfOk, IfErr, IsErrOf, OnOk};
+ghost use Rattle.spl_outside.specs.Causes.{HasCause};
+ghost use Rattle.spl_outside.specs.Content.{KeepsBut};
+ghost use Rattle.command_words.specs.Orders.{keys};
+ghost use Rattle.command_words.specs.Views.{keys_order};
+ghost use Rattle.splinter_status.specs.Phases.{Gives, StopsAtFiles, EndsAtFiles};
+ghost use Rattle.splinter_status.specs.declared.stops.InputStop.TheVariants as input;
+ghost use Rattle.splinter_status.specs.declared.stops.Stopped.TheVariants as stopped;
+ghost use Rattle.splinter_steps.specs.Outputs.{IsLate};
+ghost use Rattle.splinter_steps.specs.Writes.{put_all, PutsSome};
+ghost use Rattle.splinter_commands.specs.Commands.{asked, begun_text, keys_ready, keys_names, round_files};
+ghost use Rattle.splinter_commands.specs.Meets.{Meets};
+ghost use Rattle.splinter_commands.specs.Questions.{IsQuestion};
+
+use crate::rounds::begin;
+use client_rounds::RoundOut;
+use command_words::KeysWords;
+use query_reader::{Checked, Params};
+use spl_outside::{Draw, Files};
+use spl_values::Shape;
+use splinter_status::{InputStop, Stopped};
+use splinter_steps::{Output, judge, read_shape, write_three};
+use std::alloc::{AllocError, Global};
+
+/// An accepted query that is built, its parameters, and the shape of the table that is asked.
+#[derive(Debug, Drop)]
+pub struct Question {
+    pub checked: Checked,
+    pub params: Params,
+    pub shape: Shape,
+}
+
+/// Reads the shape, and judges the query and the parameters by it.
+#[tactic(auto, unfolding(crate::specs::Commands::keys_ready))]
+fn read_question<F: Files>(
+    alloc: Global,
+    files: &mut F,
+    words: &KeysWords<'_>,
+) -> Result<Question, InputStop>
+    ensures gives { IfSome (F.held files.old) (λ m. Gives (asked (keys_order words.now)) result (keys_ready (keys_order words.now) m)) }
+    ensures question { IfOk result IsQuestion }
+    ensures refusals { IfErr result StopsAtFiles }
+    ensures stays { F.held files.new ≡ F.held files.old }
+    ensures cause { HasCause (F.faults files.old) (F.faults files.new) (IsErrOf result InputStop.FileFault) }
+{
+    let shape = read_shape(alloc, files, words.shape)?;
+    let asked = judge(alloc, &shape, words.query, &words.parameters)?;
+    Ok(Question {
+        checked: asked.checked,
+        params: asked.params,
+        shape,
+    })
+}
+
+/// Writes the note and the two key files of a round.
+fn write_round<F: Files>(
+    alloc: Global,
+    files: &mut F,
+    words: &KeysWords<'_>,
+    round: &RoundOut,
+) -> Result<(), Stopped>
+    ensures whole { IfSome (F.held files.old) (λ m. OnOk result (F.held files.new ≡ Some (put_all (round_files (keys_order words.now) round.now) m))) }
+    ensures some { IfSome (F.held files.old) (λ m. PutsSome (round_files (keys_order words.now) round.now) m (F.held files.new)) }
+    ensures others { IfSome (F.held files.old) (λ m. KeepsBut (keys_names (keys_order words.now)) m (F.held files.new)) }
+    ensures late { IfErr result IsLate }
+    ensures cause { HasCause (F.faults files.old) (F.faults files.new) (IsErrOf result Stopped.FileFault) }
+{
+    let note = Output {
+        name: words.note,
+        bytes: round.note.as_slice(),
+    };
+    let zero = Output {
+        name: words.key_zero,
+        bytes: round.left.as_slice(),
+    };
+    let one = Output {
+        name: words.key_one,
+        bytes: round.right.as_slice(),
+    };
+    write_three(alloc, files, &note, &zero, &one)
+}
+
+/// Which round of how many was begun.
+fn begun_line(alloc: Global, rounds: u32) -> Result<Vec<u8>, AllocError>
+    ensures { IfOk result (λ text. text.items ≡ begun_text rounds) }
+{
+    Ok(format!(in alloc; "round 1 of {rounds}\n")?.into_bytes())
+}
+
+/// The command, up to the text that it prints.
+pub fn keys<F: Files, R: Draw>(
+    alloc: Global,
+    files: &mut F,
+    draw: &mut R,
+    words: &KeysWords<'_>,
+) -> Result<Vec<u8>, Stopped>
+    ensures told { IfSome (F.held files.old) (λ m. Meets (λ text. text.items) (keys_ready (keys_order words.now) m) m (F.held files.new) (R.words draw.old) (R.words draw.new) result) }
+    ensures others { IfSome (F.held files.old) (λ m. KeepsBut (keys_names (keys_order words.now)) m (F.held files.new)) }
+    ensures refusals { IfErr result EndsAtFiles }
+    ensures untouched { (s : _) → result ≡ Err (stopped.Input s) → (draw.new ≡ draw.old) × (F.held files.new ≡ F.held files.old) }
+    ensures file_fault { HasCause (F.faults files.old) (F.faults files.new) (IsErrOf result (stopped.Input input.FileFault)) }
+    ensures late_fault { HasCause (F.faults files.old) (F.faults files.new) (IsErrOf result Stopped.FileFault) }
+    ensures draw { HasCause (R.faults draw.old) (R.faults draw.new) (IsErrOf result Stopped.DrawFault) }
+{
+    let question = read_question(alloc, files, words)?;
+    let round = begin(
+        alloc,
+        draw,
+        &question.checked,
+        &question.params,
+        &question.shape,
+    )?;
+    let text = begun_line(alloc, round.rounds)?;
+    write_round(alloc, files, words, &round)?;
+    Ok(text)
+}

@@ -1,0 +1,41 @@
+//! Beginning a session.
+ghost use Rattle.std.specs.Prelude.{IfSome, IfOk, IfErr, IsErrOf};
+ghost use Rattle.spl_outside.specs.Causes.{HasCause};
+ghost use Rattle.seed_expansion.specs.ChaChaExpansion.{chacha};
+ghost use Rattle.client_rounds.specs.Draws.{Draws};
+ghost use Rattle.client_rounds.specs.Rounds.{words_taken, IsRound, IsRoundOf};
+ghost use Rattle.splinter_steps.specs.Questions.{IsAsked};
+ghost use Rattle.splinter_commands.specs.Meets.{IsDrawing};
+
+use client_rounds::laws::params_are_few;
+use client_rounds::{AskFault, RoundOut, start};
+use query_reader::{Checked, Params};
+use seed_expansion::ChaChaExpander;
+use spl_outside::Draw;
+use spl_values::Shape;
+use splinter_status::Stopped;
+use std::alloc::Global;
+
+/// Begins a session with the shipped expander: the key frames and the note of its first round.
+pub fn begin<R: Draw>(
+    alloc: Global,
+    draw: &mut R,
+    checked: &Checked,
+    params: &Params,
+    shape: &Shape,
+) -> Result<RoundOut, Stopped>
+    requires { IsAsked shape.now (record { checked = checked.now; params = params.now }) }
+    ensures told { IfSome (R.words draw.old) (λ ws. Draws (words_taken checked.now shape.now params.now) (IsRoundOf chacha checked.now shape.now params.now) ws (R.words draw.new) result) }
+    ensures round { IfOk result (IsRound chacha checked.now shape.now params.now) }
+    ensures drawing { IfErr result IsDrawing }
+    ensures cause { HasCause (R.faults draw.old) (R.faults draw.new) (IsErrOf result Stopped.DrawFault) }
+{
+    params_are_few();
+    match start(alloc, &ChaChaExpander, checked, params, shape, draw) {
+        Ok(round) => Ok(round),
+        Err(AskFault::DrawFault) => Err(Stopped::DrawFault),
+        Err(AskFault::OutOfMemory) => Err(Stopped::OutOfMemory),
+        // Beginning a session refuses nothing else.
+        Err(_) => unreachable!(),
+    }
+}
