@@ -1,0 +1,2 @@
+pub mod CellsBy
+pub mod Runs
