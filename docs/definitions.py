@@ -32,6 +32,11 @@ CRATES = [
     ("interval_keys", "Threshold functions and their two keys, after the same paper, and intervals made disjoint."),
     ("share_eval", "The sums of shares times cells."),
     ("count_sum", "What counts and sums are folded over."),
+    ("cell_runs", "Rows by a number that each has, and the cells of those that have one."),
+    ("keyed_rows", "Rows of a table with their joined keys."),
+    ("max_min_topk", "What greatest, least and best rows are folded over."),
+    ("position_tables", "What the second round of a wide range is folded over."),
+    ("aligned_ranges", "The ranges of a power of two of numbers that make up an interval."),
     ("private_plan", "Plans: which trees a query asks for, after Splinter (Wang, Yun, Goldwasser, Vaikuntanathan and Zaharia, NSDI 2017), and what their secrets are."),
     ("frame_fields", "The fields that all frames share, and what reading them gives."),
     ("answer_frames", "What a provider sends back."),
@@ -45,7 +50,8 @@ CRATES = [
     ("command_words", "What the words of the command line mean, read as the crate `clap` defines."),
     ("splinter_status", "How a command ends: statuses, their lines, and the errors of its phases."),
     ("splinter_steps", "The steps that commands share."),
-    ("splinter_cli", "The commands: what their words and files come to, what is printed, and how each status comes."),
+    ("splinter_commands", "The commands: what their words and files come to."),
+    ("splinter_cli", "What is printed, and how each status comes."),
 ]
 
 DEFINITION = re.compile(r"(?:abbrev pub|unfoldable pub|pub record|pub data)\s+([^\s:({]+)")
