@@ -1,5 +1,5 @@
 -- Which calls on a form in memory fail.
-use Rattle.std.specs.Prelude.{ℕ, ◌==◌, Bool, List, if◌then◌else◌}
+use Rattle.std.specs.Prelude.{ℕ, ◌==◌, Bool, ◌||◌, List, length, if◌then◌else◌}
 use Rattle.std.specs.List.{list_any}
 use Rattle.spl_outside.specs.Causes.{one_more}
 
@@ -24,3 +24,7 @@ after_fault f = record { numbers = f.numbers; calls = f.calls; faults = one_more
 -- after a call more
 abbrev pub after_call : Failing → Failing
 after_call f = record { numbers = f.numbers; calls = one_more f.calls; faults = if fails_next f then one_more f.faults else f.faults }
+
+-- after a draw more from these words: a fault more where the call is to fail or finds no word
+abbrev pub after_draw : List ℕ → Failing → Failing
+after_draw words f = record { numbers = f.numbers; calls = one_more f.calls; faults = if fails_next f || length words == 0 then one_more f.faults else f.faults }

@@ -60,7 +60,7 @@ pub trait Files {
     /// The bytes of a name, at most `limit` of them.
     ///
     /// Of the calls that don't fail, those on a name that isn't held are `Absent`, and those on a
-    /// name with more bytes are `TooLong`.
+    /// name with more bytes are `TooLong`; want of memory may come in the place of either.
     fn read(&mut self, alloc: Global, name: &str, limit: u64) -> Result<Vec<u8>, FileStop>
         ensures content { IfSome (held self.old) (λ m. ReadsFile m name.now limit result) }
         ensures bound { IfOk result (λ v. length v.items ≤ limit) }
