@@ -31,7 +31,8 @@ pub enum AskFault {
     Frame(Source, FrameFault),
     /// Both answers are of this provider.
     SameProvider(Provider),
-    /// The note and the answers aren't of one round of one session over one table.
+    /// The note and the answers aren't of one round of one session over one table, an answer is to another key than the
+    /// note's, or it hasn't as many words as the plan's round.
     Differ(Differ),
     /// The combined word of that number, from 0, can't stand in an answer.
     BadWord(u32, u64),
@@ -39,6 +40,7 @@ pub enum AskFault {
     DrawFault,
     /// Queries with such a plan aren't answered yet.
     NotBuilt(PlanKind),
+    /// There was no memory for it.
     OutOfMemory,
 }
 

@@ -17,6 +17,7 @@ pub enum CombineFault {
     SameProvider(Provider),
     /// The first two values that have to agree and don't.
     Differ(Differ),
+    /// There was no memory for it.
     OutOfMemory,
 }
 
@@ -138,9 +139,10 @@ fn add_words(alloc: Global, zero: &[u64], one: &[u64]) -> Result<Words, AllocErr
 ///
 /// # Errors
 ///
-/// `SameProvider` where both answers are of one provider. Else `Differ` at the first two values that differ, the wanted one
-/// first: of Zero's answer and then of One's the session, the round, the digest of the key frame and the number of words;
-/// then the two tables; then, in a note of the second round, its table and that of Zero's answer. Or want of memory.
+/// `SameProvider` where both answers are of one provider. Else `Differ` at the first two values that differ: of Zero's
+/// answer and then of One's the session, the round, the digest of the key frame and the number of words, each behind the
+/// note's or the expected one; then the two tables, Zero's before One's; then, in a note of the second round, its table
+/// before that of Zero's answer. Or want of memory.
 #[tactic(auto, unfolding(crate::specs::Combining::combined))]
 pub fn combine_words(
     alloc: Global,

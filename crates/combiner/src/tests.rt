@@ -113,7 +113,7 @@ fn refuses(
     }
 }
 
-/// The wanted value first, whichever answer comes first.
+/// The wanted value first, and of two answers Zero's, whichever answer comes first.
 #[test]
 fn answers_differ(rt: HostRuntime) -> Result<(), Fail> {
     let note = note(&rt, 1, 0)?;

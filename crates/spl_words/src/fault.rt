@@ -21,6 +21,7 @@ pub enum FrameFault {
     Trailing(u64),
     /// The digest in the frame isn't that of its bytes: found, computed.
     BadDigest([u8; 32], [u8; 32]),
+    /// There was no memory for it.
     OutOfMemory,
 }
 

@@ -5,7 +5,9 @@ ghost use Rattle.spl_words.specs.Words.{other};
 /// One of the two providers. `Zero` comes first.
 #[derive(Clone, Copy, Debug, PartialEq, Eq, PartialOrd, Ord)]
 pub enum Provider {
+    /// The first of the two.
     Zero,
+    /// The second of the two.
     One,
 }
 

@@ -3,21 +3,25 @@ ghost use Rattle.std.specs.Prelude.{◌≡◌};
 
 use std::marker::Model;
 
-/// The kind of a tree: its function is `beta` at `alpha` alone, or at each number up to `alpha`.
+/// The kind of a tree: where its function is `beta`. At all other numbers it is 0.
 #[derive(Clone, Copy, Debug, PartialEq, Eq)]
 pub enum TreeKind {
+    /// At `alpha` alone.
     Point,
+    /// At each number up to `alpha`.
     Threshold,
 }
 
 /// The secret of a tree. `kind` and `depth` are public, `alpha` and `beta` are not.
 #[derive(Clone, Copy, Debug, PartialEq, Eq)]
 pub struct TreeSecret {
+    /// Where the tree's function is `beta`.
     pub kind: TreeKind,
     /// The bits of the numbers that the tree's function takes, 1 to 128.
     pub depth: u32,
     /// Below 2^`depth`.
     pub alpha: u128,
+    /// What the function is there.
     pub beta: u64,
 }
 

@@ -99,7 +99,7 @@ frame_fault_text (frame.Trailing at) = codes "trailing at " ++ decimal at
 frame_fault_text (frame.BadDigest stated computed) = codes "bad digest " ++ (encode_lower stated ++ (codes " " ++ encode_lower computed))
 frame_fault_text frame.OutOfMemory = []
 
--- the first field that differs: what was wanted, and then what was found
+-- the first field that differs: what was wanted and then what was found, or Zero's and then One's
 abbrev pub differ_text : Differ → List ℕ
 differ_text (differ.Session wanted found) = codes "session " ++ (session_text wanted ++ (codes " " ++ session_text found))
 differ_text (differ.Round wanted found) = codes "round " ++ (decimal wanted ++ (codes " " ++ decimal found))

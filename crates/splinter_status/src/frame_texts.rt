@@ -85,7 +85,7 @@ fn keys(
     }
 }
 
-/// The first field that differs: what was wanted, and then what was found.
+/// The first field that differs: what was wanted and then what was found, or Zero's and then One's.
 pub fn differ(alloc: Global, differ: &Differ) -> Result<String, AllocError>
     ensures { IfOk result (λ t. string_bytes t ≡ differ_text differ.now) }
 {
