@@ -1,5 +1,5 @@
 -- The bytes of a first round are those of its key frames and of its note.
-use Rattle.std.proofs.Common.{◌≡◌, ℕ, zero, suc, ◌+◌, ◌^◌, ◌<◌, ◌≤◌, Bool, true, false, not, cond, nat_le, List, [], ◌∷◌, ◌++◌, length, map, drop, get_or, replicate, refl, arith}
+use Rattle.std.proofs.Common.{◌≡◌, ℕ, zero, suc, ◌+◌, ◌^◌, ◌<◌, ◌≤◌, Bool, true, false, not, cond, nat_le, List, [], ◌∷◌, ◌++◌, length, map, drop, get_or, replicate, Some, None, unwrap_or, refl, arith}
 use Rattle.std.specs.List.{AllByRecursion, AllZip, list_all, range_with_len}
 use Rattle.std.specs.Int.{w32, to_be_bytes}
 use Rattle.std.proofs.Math.Nat.{pow-le-pow_right}
@@ -157,7 +157,7 @@ zeros_small (suc n) (suc i) = zeros_small n i
 
 -- ---- parameters
 
-label_small : (a b c d e : Bool) → cond a 1 (cond b 2 (cond c 3 (cond d 4 (cond e 5 6)))) ≤ 128
+label_small : (a b c d e : Bool) → unwrap_or (cond a (Some 1) (cond b (Some 2) (cond c (Some 3) (cond d (Some 4) (cond e (Some 5) None))))) 6 ≤ 128
 label_small true b c d e = omega arith
 label_small false true c d e = omega arith
 label_small false false true d e = omega arith

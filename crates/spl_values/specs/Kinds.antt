@@ -1,6 +1,6 @@
 -- Column types and the values that they take.
-use Rattle.std.specs.Prelude.{ℕ, ◌+◌, ◌-◌, ◌*◌, ◌/◌, ◌%◌, ◌^◌, ◌<◌, ◌≤◌, ◌==◌, Bool, ◌&&◌, nat_le, suc, zero, List, [], ◌∷◌, ◌++◌, length, replicate, if◌then◌else◌, IsTrue}
-use Rattle.std.specs.List.{list_all}
+use Rattle.std.specs.Prelude.{ℕ, ◌+◌, ◌-◌, ◌*◌, ◌/◌, ◌%◌, ◌^◌, ◌<◌, ◌≤◌, ◌==◌, Bool, ◌&&◌, nat_le, suc, zero, find, unwrap_or, List, [], ◌∷◌, ◌++◌, length, replicate, if◌then◌else◌, IsTrue}
+use Rattle.std.specs.List.{list_all, range_with_len}
 use Rattle.spl_values.specs.Names.{is_label, is_distinct}
 use Rattle.spl_values.specs.declared.kinds.ColumnType.{ColumnType}
 use Rattle.spl_values.specs.declared.kinds.ColumnType.TheVariants.{Uint, Text, Enum}
@@ -15,7 +15,7 @@ is_kind (Enum labels) = nat_le 1 (length labels) && nat_le (length labels) 64 &&
 
 -- the least number of bits, at least one, that tell so many labels apart, for up to 64 labels
 abbrev pub label_bits : ℕ → ℕ
-label_bits n = if nat_le n 2 then 1 else if nat_le n 4 then 2 else if nat_le n 8 then 3 else if nat_le n 16 then 4 else if nat_le n 32 then 5 else 6
+label_bits n = unwrap_or (find (λ w. nat_le n (2 ^ w)) (range_with_len 1 5)) 6
 
 -- the bits of a column's codes
 abbrev pub bits_of : ColumnType → ℕ

@@ -8,6 +8,9 @@ ghost use Rattle.spl_values.specs.Kinds.{is_kind, bits_of};
 use crate::lists::{Labels, Name};
 use crate::names::is_label;
 
+/// The most labels of a type.
+pub(crate) const MAX_LABELS: usize = 64;
+
 /// The type of a column.
 #[derive(Clone, Debug, Drop, PartialEq)]
 pub enum ColumnType {
@@ -53,7 +56,10 @@ pub fn is_kind(kind: &ColumnType) -> bool
         ColumnType::Text(bytes) => *bytes >= 1 && *bytes <= 16,
         ColumnType::Enum(labels) => {
             let labels = labels.as_slice();
-            labels.len() >= 1 && labels.len() <= 64 && are_labels(labels) && are_distinct(labels)
+            labels.len() >= 1
+                && labels.len() <= MAX_LABELS
+                && are_labels(labels)
+                && are_distinct(labels)
         }
     }
 }

@@ -13,16 +13,13 @@ ghost use Rattle.spl_values.specs.declared.shape_reader.ShapeFault.TheVariants.{
 use crate::cells::{is_number, number};
 use crate::columns::{Column, Columns, Schema, Shape};
 use crate::cuts::{cut, first_line};
-use crate::kinds::{ColumnType, is_kind};
+use crate::kinds::{ColumnType, MAX_LABELS, is_kind};
 use crate::lists::{Labels, Name};
 use crate::names::{is_label, is_name};
 use std::alloc::{AllocError, Global};
 
 /// The most columns of a table.
 const MAX_COLUMNS: usize = 24;
-
-/// The most labels of a type.
-const MAX_LABELS: usize = 64;
 
 /// The most rows of a table.
 const MAX_ROWS: u32 = 262_144;
