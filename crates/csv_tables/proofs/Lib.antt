@@ -3,3 +3,4 @@ pub mod Records
 pub mod Tables
 pub mod Written
 pub mod RoundTrip
+pub mod Saying

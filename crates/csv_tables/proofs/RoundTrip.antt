@@ -119,7 +119,7 @@ header_plain (b ∷ bs) names rest h =
     append_assoc (field_text default_writer (b ∷ bs) ++ tail) end rest ∙ append_assoc (field_text default_writer (b ∷ bs)) tail (end ++ rest) in
     ap strip_bom parts ∙ field_first b bs (tail ++ (end ++ rest)) (name_first b bs h) ∙ sym parts
 
-names_same : (xs : List (List ℕ)) → pointwise bytes_eq xs xs ≡ true
+pub names_same : (xs : List (List ℕ)) → pointwise bytes_eq xs xs ≡ true
 names_same [] = refl
 names_same (x ∷ xs) = let one = (bytes_eq-Decides x x).1 refl in rw (one, names_same xs) refl
 

@@ -1,5 +1,6 @@
 -- The table that a text of comma-separated values has.
-use Rattle.std.specs.Prelude.{ℕ, ◌+◌, ◌-◌, ◌^◌, ◌==◌, min, List, [], ◌∷◌, ◌++◌, length, if◌then◌else◌, Result, Ok, Err}
+use Rattle.std.specs.Prelude.{◌≡◌, ◌↔◌, ℕ, ◌+◌, ◌-◌, ◌^◌, ◌==◌, min, List, [], ◌∷◌, ◌++◌, length, drop, slice_get, Some, if◌then◌else◌, Result, Ok, Err}
+use Rattle.std.specs.List.{AllZip}
 use Rattle.std.specs.Cmp.Lexicographic.{pointwise}
 use Rattle.std.specs.Str.{bytes_eq}
 use Rattle.csv.specs.Reading.{records, default_config, strip_bom}
@@ -55,6 +56,22 @@ records_of text = records default_config (strip_bom text)
 -- the rows that a text has for a shape, or the first fault
 abbrev pub table_of_text : ShapeParts → List ℕ → Result (List (List Value)) TableFault
 table_of_text shape text = table_of shape (records_of text)
+
+-- fields say a row: there is one field and one value for each column, and the column of each place reads the field there as the value there
+pub record SaysRow (columns : List ColumnParts) (fields : List (List ℕ)) (row : List Value) : Type 0 where
+  pub field_each : length fields ≡ length columns
+  pub value_each : length row ≡ length columns
+  pub reads : (i : ℕ) (c : ColumnParts) (f : List ℕ) (v : Value) → slice_get columns i ≡ Some c → slice_get fields i ≡ Some f → slice_get row i ≡ Some v → value_of_text c.kind f ≡ Ok v
+
+-- a text says these rows for a shape: its first record is the column names, there are as many rows as stated, and behind the first there is one record for each row, which says it
+pub record IsTableText (text : List ℕ) (shape : ShapeParts) (rows : List (List Value)) : Type 0 where
+  pub header : slice_get (records_of text) 0 ≡ Some (names_of shape.schema.columns)
+  pub count : length rows ≡ shape.rows
+  pub row_each : AllZip (SaysRow shape.schema.columns) (drop 1 (records_of text)) rows
+
+-- a text reads as rows exactly where it says them
+abbrev pub TableTextsRead : Type 0
+TableTextsRead = (text : List ℕ) (shape : ShapeParts) (rows : List (List Value)) → (table_of_text shape text ≡ Ok rows) ↔ IsTableText text shape rows
 
 -- the values of rows, one after another
 unfoldable pub joined : List (List Value) → List Value

@@ -101,8 +101,8 @@ fn push_row(
     Ok(())
 }
 
-// The values of all rows under the header, one after another, and how many rows there are. Of more
-// rows than the stated ones the values aren't kept.
+/// The values of all rows under the header, one after another, and how many rows there are. Of more
+/// rows than the stated ones the values aren't kept.
 pub fn read_cells(
     alloc: Global,
     bytes: &[u8],
