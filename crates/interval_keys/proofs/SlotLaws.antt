@@ -136,16 +136,19 @@ value_slots branches x v =
     value-padded x (between branches) _
     ∙ (value-separated x (between branches) (separated_between branches v) ∙ ap (λ b. cond b 1 0) (held_between branches x v))
 
+-- what each interval has, and the hull of two that meet where both have it, each slot has too
+pub each_slot : (P : Span → Type 0) → Joins P → (branches : List (Option Span)) → EachSpan IsSpan branches → EachSpan P branches → EachSpan P (slots branches)
+unfolding between
+each_slot P j branches v h = each_padded P (between branches) _ (each_between P j branches v h)
+
 hull_below : (n : ℕ) → Joins (λ s. s.hi < n)
 hull_below n s t h k p q = omega arith
 
 pub slots_below : (branches : List (Option Span)) (n : ℕ) → EachSpan IsSpan branches → EachSpan (λ s. s.hi < n) branches → EachSpan (λ s. s.hi < n) (slots branches)
-unfolding between
-slots_below branches n v h = each_padded (λ s. s.hi < n) (between branches) _ (each_between (λ s. s.hi < n) (hull_below n) branches v h)
+slots_below branches n v h = each_slot (λ s. s.hi < n) (hull_below n) branches v h
 
 hull_single : Joins (λ s. s.lo ≡ s.hi)
 hull_single s t h k p q = omega arith
 
 pub single_slots : (branches : List (Option Span)) → EachSpan IsSpan branches → EachSpan (λ s. s.lo ≡ s.hi) branches → EachSpan (λ s. s.lo ≡ s.hi) (slots branches)
-unfolding between
-single_slots branches v h = each_padded (λ s. s.lo ≡ s.hi) (between branches) _ (each_between (λ s. s.lo ≡ s.hi) hull_single branches v h)
+single_slots branches v h = each_slot (λ s. s.lo ≡ s.hi) hull_single branches v h

@@ -36,6 +36,8 @@ fn intervals_that_overlap_become_one(rt: HostRuntime) -> Result<(), Fail> {
             [span(0, 12), None, None],
         )
     );
+    // all numbers of four bits
+    assert!(rt; has_slots([span(0, 15), span(3, 9), None], [span(0, 15), None, None],));
     Ok(())
 }
 

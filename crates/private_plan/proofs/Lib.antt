@@ -1,5 +1,7 @@
+pub mod Accepted
 pub mod Backwards
 pub mod Counts
 pub mod Loops
+pub mod OneValue
 pub mod SlotSecrets
 pub mod Spans

@@ -27,11 +27,11 @@ pair : (P Q : Span → Type 0) (s : Option Span) → IfSome s P → IfSome s Q �
 pair P Q None a b = tt
 pair P Q (Some t) a b = (a, b)
 
-first : (P Q : Span → Type 0) (s : Option Span) → IfSome s (λ t. P t × Q t) → IfSome s P
+pub first : (P Q : Span → Type 0) (s : Option Span) → IfSome s (λ t. P t × Q t) → IfSome s P
 first P Q None a = tt
 first P Q (Some t) a = a.0
 
-second : (P Q : Span → Type 0) (s : Option Span) → IfSome s (λ t. P t × Q t) → IfSome s Q
+pub second : (P Q : Span → Type 0) (s : Option Span) → IfSome s (λ t. P t × Q t) → IfSome s Q
 second P Q None a = tt
 second P Q (Some t) a = a.1
 
@@ -63,7 +63,7 @@ single_span columns (c ∷ d ∷ cs) (p ∷ ps) = raised_single (p * 2 ^ key_bit
   raised_single n None e = tt
   raised_single n (Some t) e = ap (λ x. n + x) e
 
-single_spans : (columns : List ColumnParts) (n : ℕ) (places params : List ℕ) → AllByRecursion (λ s. IfSome s (λ t. t.lo ≡ t.hi)) (branch_spans columns n places false params)
+pub single_spans : (columns : List ColumnParts) (n : ℕ) (places params : List ℕ) → AllByRecursion (λ s. IfSome s (λ t. t.lo ≡ t.hi)) (branch_spans columns n places false params)
 unfolding branch_spans
 single_spans columns zero places params = tt
 single_spans columns (suc n) places params = (single_span columns places (take (branch_params places false) params), single_spans columns n places (drop (branch_params places false) params))

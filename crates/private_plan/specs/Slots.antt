@@ -7,7 +7,9 @@ use Rattle.spl_values.specs.Shapes.{ColumnParts}
 use Rattle.interval_keys.specs.Intervals.{Span, interval_secrets}
 use Rattle.interval_keys.specs.Slots.{slots}
 use Rattle.query_reader.specs.declared.checked.Checked.{Checked}
+use Rattle.private_plan.specs.declared.plans.KeySpec.{KeySpec}
 use Rattle.private_plan.specs.Branches.{branch_spans}
+use Rattle.private_plan.specs.Plans.{tree}
 
 -- the slots of a query with these parameters: what its branches allow, as disjoint intervals
 abbrev pub slots_of : Checked → List ColumnParts → List ℕ → List (Option Span)
@@ -26,6 +28,10 @@ slot_secrets false bits slot = point_secret bits slot ∷ []
 -- the secrets of a sum's trees, slot by slot
 abbrev pub sum_secrets : Checked → List ColumnParts → List ℕ → List Secret
 sum_secrets checked columns params = flat_map (slot_secrets checked.range checked.bits) (slots_of checked columns params)
+
+-- the tree of a secret
+abbrev pub secret_tree : Secret → KeySpec
+secret_tree s = tree s.kind s.depth
 
 -- what the functions of some secrets add to at x
 abbrev pub secrets_value : List Secret → ℕ → ℕ

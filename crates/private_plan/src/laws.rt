@@ -1,8 +1,8 @@
 //! Laws of plans. Each function does nothing: its clauses are the laws.
-ghost use Rattle.std.specs.Prelude.{◌≡◌, ℕ, ◌≤◌, Bool, List, length, if◌then◌else◌};
+ghost use Rattle.std.specs.Prelude.{◌≡◌, ℕ, ◌/◌, ◌^◌, ◌<◌, ◌≤◌, Bool, false, List, length, map, if◌then◌else◌};
 ghost use Rattle.std.specs.List.{AllZip};
-ghost use Rattle.spl_values.specs.Shapes.{ColumnParts, SchemaParts};
-ghost use Rattle.interval_keys.specs.Slots.{allowed, held};
+ghost use Rattle.spl_values.specs.Shapes.{ColumnParts, SchemaParts, ShapeParts};
+ghost use Rattle.interval_keys.specs.Slots.{EachSpan, IsSpan, allowed, held};
 ghost use Rattle.cell_merge.specs.Rows.{Row};
 ghost use Rattle.query_grammar.specs.Canonical.{IsQuery};
 ghost use Rattle.query_reader.specs.declared.checked.Checked.{Checked};
@@ -10,7 +10,9 @@ ghost use Rattle.query_reader.specs.Accepted.{IsCheckedFor};
 ghost use Rattle.query_reader.specs.Matching.{branch_holds, some_branch_holds};
 ghost use Rattle.query_reader.specs.Params.{AreParamsFor, HasBits, branch_columns, times};
 ghost use Rattle.private_plan.specs.Branches.{RowHasBits, row_key, branch_span, branch_spans, span_holds};
-ghost use Rattle.private_plan.specs.Slots.{sum_secrets, secrets_value};
+ghost use Rattle.private_plan.specs.declared.plans.PlanKind.TheVariants as kind;
+ghost use Rattle.private_plan.specs.Plans.{last_bits, plan_of};
+ghost use Rattle.private_plan.specs.Slots.{secret_tree, secrets_value, slots_of, sum_secrets};
 
 /// The interval of a branch holds a row's joined key exactly where the branch holds of the row, and
 /// the intervals of several branches where one of these does, for codes that have no more bits than
@@ -18,6 +20,30 @@ ghost use Rattle.private_plan.specs.Slots.{sum_secrets, secrets_value};
 pub fn spans_hold_where_branches_do()
     ensures one { (columns : List ColumnParts) (places : List ℕ) (range : Bool) (params : List ℕ) (r : Row) → RowHasBits columns places r → AllZip (HasBits columns) (branch_columns places range) params → branch_holds places range params r ≡ span_holds (branch_span columns places range params) (row_key columns places r) }
     ensures some { (columns : List ColumnParts) (places : List ℕ) (range : Bool) → 1 ≤ length places → (n : ℕ) (params : List ℕ) (r : Row) → RowHasBits columns places r → AllZip (HasBits columns) (times n (branch_columns places range)) params → some_branch_holds n places range params r ≡ held (allowed (branch_spans columns n places range params)) (row_key columns places r) }
+{}
+
+/// The intervals of an accepted query's branches hold a number each, and their numbers have no more
+/// than the bits of the joined key.
+pub fn spans_fit_the_key()
+    ensures spans { (checked : Checked) (schema : SchemaParts) (params : List ℕ) → IsCheckedFor checked schema → IsQuery checked.query → AreParamsFor checked schema params
+        → EachSpan IsSpan (branch_spans schema.columns checked.branches checked.columns checked.range params) }
+    ensures below { (checked : Checked) (schema : SchemaParts) (params : List ℕ) → IsCheckedFor checked schema → IsQuery checked.query → AreParamsFor checked schema params
+        → EachSpan (λ s. s.hi < 2 ^ checked.bits) (branch_spans schema.columns checked.branches checked.columns checked.range params) }
+{}
+
+/// A slot never crosses into another value of the columns before the last: its ends agree above the
+/// bits of the last column. Without a range it is a single number.
+pub fn slots_stay_in_one_value()
+    ensures agree { (checked : Checked) (schema : SchemaParts) (params : List ℕ) → IsCheckedFor checked schema → IsQuery checked.query → AreParamsFor checked schema params
+        → EachSpan (λ s. s.lo / 2 ^ last_bits schema.columns checked.columns ≡ s.hi / 2 ^ last_bits schema.columns checked.columns) (slots_of checked schema.columns params) }
+    ensures single { (checked : Checked) (schema : SchemaParts) (params : List ℕ) → IsCheckedFor checked schema → IsQuery checked.query → AreParamsFor checked schema params → checked.range ≡ false
+        → EachSpan (λ s. s.lo ≡ s.hi) (slots_of checked schema.columns params) }
+{}
+
+/// The trees of a sum's secrets are those that its plan asks for, in the same order.
+pub fn sum_secrets_lie_as_planned()
+    ensures { (checked : Checked) (shape : ShapeParts) (params : List ℕ) → IsCheckedFor checked shape.schema → IsQuery checked.query → AreParamsFor checked shape.schema params → (plan_of checked shape).kind ≡ kind.Sum
+        → map secret_tree (sum_secrets checked shape.schema.columns params) ≡ (plan_of checked shape).first }
 {}
 
 /// The functions of a sum's secrets add, at a row's joined key, to 1 where some branch holds of the

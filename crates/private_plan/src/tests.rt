@@ -1,21 +1,29 @@
 //! Plans, slots and secrets by hand.
-ghost use Rattle.std.specs.Prelude.{IfOk};
+ghost use Rattle.std.specs.Prelude.{◌≤◌, ◌<◌, ◌^◌, IfOk};
 ghost use Rattle.query_reader.specs.Accepted.{IsCheckedFor};
 
-use crate::{KeySpec, Plan, PlanKind, frame_length, plan, slots};
+use crate::{KeySpec, Plan, PlanKind, frame_length, plan, round_secrets, slots};
 use interval_keys::Interval;
 use query_reader::{Checked, check_query, params_of_words, read_query};
 use spl_values::{Schema, read_shape};
-use spl_words::TreeKind;
+use spl_words::TreeKind::{Point, Threshold};
+use spl_words::{TreeKind, TreeSecret};
 use std::test::Fail;
 
 const FLIGHTS: &str =
     "table flights\nrows 5\norigin TEXT(3)\ndest TEXT(3)\nmonth UINT(4)\nprice UINT(16)\n";
 
+const DIGITS: &str = "table t\nrows 1\na UINT(4)\nb UINT(4)\n";
+
+const TWICE: &str =
+    "SELECT COUNT(*) FROM t WHERE (a = ? AND b BETWEEN ? AND ? OR a = ? AND b BETWEEN ? AND ?)";
+
 const PEOPLE: &str = "table p\nrows 1\nx UINT(32)\n";
 
 const SUMS: &str =
     "SELECT COUNT(*), SUM(price), AVG(price) FROM flights WHERE origin = ? AND dest = ? AND price BETWEEN ? AND ?";
+
+const PRICES: &str = "SELECT COUNT(*) FROM flights WHERE price BETWEEN ? AND ?";
 
 const EITHER: &str = "SELECT COUNT(*) FROM flights WHERE (origin = ? OR origin = ?)";
 
@@ -160,5 +168,106 @@ fn slots_of_branches(rt: HostRuntime) -> Result<(), Fail> {
             "{query} {params}"
         );
     }
+    Ok(())
+}
+
+/// Slots over two columns of four bits: what overlaps becomes one, and what lies in two values of the
+/// first column stays two, even where the ends are adjacent.
+#[test]
+fn slots_over_two_columns(rt: HostRuntime) -> Result<(), Fail> {
+    let shape = read_shape(rt.alloc(), DIGITS.as_bytes())?;
+    for (params, ends) in [
+        ("1 2 9 1 5 12", &[Some((0x12, 0x1c)), None][..]),
+        (
+            "1 0 15 2 0 3",
+            &[Some((0x10, 0x1f)), Some((0x20, 0x23))][..],
+        ),
+    ] {
+        assert_eq!(rt;
+            slots_in(&rt, &shape.schema, TWICE, params)?.as_slice(),
+            ends,
+            "{params}"
+        );
+    }
+    Ok(())
+}
+
+/// Whether these are the secrets of a sum's query over the flights.
+fn has_secrets(
+    rt: &HostRuntime,
+    query: &str,
+    params: &str,
+    secrets: &[TreeSecret],
+) -> Result<bool, Fail> {
+    let shape = read_shape(rt.alloc(), FLIGHTS.as_bytes())?;
+    let checked = checked_of(rt, &shape.schema, query)?;
+    let words = words_of(rt, params)?;
+    let params = params_of_words(rt.alloc(), &checked, &shape.schema, words.as_slice())?;
+    let plan = plan(rt.alloc(), &checked, &shape)?;
+    match plan.kind {
+        PlanKind::Sum => {
+            let found = round_secrets(rt.alloc(), &plan, &checked, &shape, &params, 1, &[])?;
+            Ok(found.as_slice() == secrets)
+        }
+        _ => Ok(false),
+    }
+}
+
+/// A secret of a tree of so many bits.
+fn secret(kind: TreeKind, depth: u32, alpha: u128, beta: u64) -> TreeSecret
+    requires some { 1 ≤ depth }
+    requires most { depth ≤ 128 }
+    requires below { alpha < 2 ^ depth }
+{
+    TreeSecret {
+        kind,
+        depth,
+        alpha,
+        beta,
+    }
+}
+
+#[test]
+fn secrets_of_rounds(rt: HostRuntime) -> Result<(), Fail> {
+    assert!(rt;
+        has_secrets(
+            &rt,
+            SUMS,
+            "SFO JFK 300 500",
+            &[
+                secret(Threshold, 64, 0x5346_4f4a_464b_01f4, 1),
+                secret(Threshold, 64, 0x5346_4f4a_464b_012b, u64::MAX),
+            ],
+        )?
+    );
+    // below the lowest price of these two texts there are keys of other texts
+    assert!(rt;
+        has_secrets(
+            &rt,
+            SUMS,
+            "SFO JFK 0 500",
+            &[
+                secret(Threshold, 64, 0x5346_4f4a_464b_01f4, 1),
+                secret(Threshold, 64, 0x5346_4f4a_464a_ffff, u64::MAX),
+            ],
+        )?
+    );
+    // below 0 there is no key
+    assert!(rt;
+        has_secrets(
+            &rt,
+            PRICES,
+            "0 500",
+            &[secret(Threshold, 16, 500, 1), secret(Threshold, 16, 0, 0)],
+        )?
+    );
+    assert!(rt;
+        has_secrets(
+            &rt,
+            EITHER,
+            "SFO SFO",
+            &[secret(Point, 24, 0x53464f, 1), secret(Point, 24, 0, 0)],
+        )?
+    );
     Ok(())
 }
