@@ -17,9 +17,11 @@ unfoldable pub ordered : {A : Type 0} → (A → A → Bool) → List A → List
 ordered before [] = []
 ordered before (x ∷ xs) = placed before x (ordered before xs)
 
+-- an entry put in behind all that come before it
 abbrev pub put : Entry → List Entry → List Entry
 put x xs = placed before x xs
 
+-- entries from the best to the least
 abbrev pub in_order : List Entry → List Entry
 in_order xs = ordered before xs
 
@@ -34,6 +36,7 @@ words_of zero xs = []
 words_of (suc k) [] = 0 ∷ 0 ∷ 0 ∷ words_of k []
 words_of (suc k) (x ∷ xs) = x.place ∷ x.sort ∷ x.show ∷ words_of k xs
 
+-- the entry of a row: its number plus 1, and its codes in the sort column and the shown one
 abbrev pub entry : ℕ → ℕ → Row → Entry
 entry sort show r = record { place = r.number + 1; sort = code sort r; show = code show r }
 

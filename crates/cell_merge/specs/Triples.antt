@@ -3,9 +3,11 @@ use Rattle.std.specs.Prelude.{ℕ, zero, suc, ◌+◌, ◌*◌, Bool, true, fals
 use Rattle.cell_merge.specs.declared.entry.Entry.{Entry}
 use Rattle.cell_merge.specs.Entries.{before}
 
+-- the i-th entry in a list of words
 abbrev pub entry_at : List ℕ → ℕ → Entry
 entry_at ws i = record { place = slice_index ws (3 * i); sort = slice_index ws (3 * i + 1); show = slice_index ws (3 * i + 2) }
 
+-- a list of words with an entry in the i-th place
 abbrev pub with_entry : List ℕ → ℕ → Entry → List ℕ
 with_entry ws i e = slice_set (slice_set (slice_set ws (3 * i) e.place) (3 * i + 1) e.sort) (3 * i + 2) e.show
 

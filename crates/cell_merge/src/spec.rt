@@ -31,18 +31,21 @@ impl Model for CellItems {
 }
 
 impl CellItems {
+    /// The list of these items.
     pub fn from_vec(items: Vec<CellItem>) -> CellItems
         ensures { result ≡ items.items }
     {
         CellItems { items }
     }
 
+    /// The items, in order.
     pub fn as_slice(&self) -> &[CellItem]
         ensures { result.now ≡ self.now }
     {
         self.items.as_slice()
     }
 
+    /// The items, taken out.
     pub fn into_vec(self) -> Vec<CellItem>
         ensures { result.items ≡ self }
     {
