@@ -93,7 +93,7 @@ fn key_pair<E: Expander>(
     }
 }
 
-/// The keys of `Zero` and those of `One` of some trees, whose numbers begin at one.
+/// The keys of `Zero` and those of `One` of some trees, which are numbered from `first_tree` on.
 fn key_lists<E: Expander>(
     alloc: Global,
     expander: &E,

@@ -1,5 +1,5 @@
 //! The fields that all frames share: reading them from the front with the first fault that is met, and writing
-//! them one behind the other. The laws here tie each field's reading to its one spelling.
+//! them one behind the other. The proofs here tie each field's reading to its one spelling.
 #![tactic(auto)]
 
 mod reading;

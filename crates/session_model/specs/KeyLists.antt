@@ -16,7 +16,7 @@ abbrev pub key_of : TreeKind → Meaning → Provider → ℕ → Secret → ℕ
 key_of Point e p tree s roots = key.Point (own p (point_keys e tree s roots))
 key_of Threshold e p tree s roots = key.Threshold (own p (threshold_keys e tree s roots))
 
--- its keys of some secrets, in trees numbered from one on
+-- its keys of some secrets, in trees numbered from `tree` on
 unfoldable pub key_list : Meaning → Provider → ℕ → List Secret → List (ℕ × ℕ) → List Key
 key_list e p tree (s ∷ ss) (r ∷ rs) = key_of s.kind e p tree s r ∷ key_list e p (tree + 1) ss rs
 key_list e p tree _ _ = []
@@ -26,7 +26,7 @@ abbrev pub key_share : Meaning → Provider → ℕ → Key → ℕ → ℕ
 key_share e p tree (key.Point k) x = point_share e p tree k x
 key_share e p tree (key.Threshold k) x = threshold_share e p tree k x
 
--- what its shares at x under some keys add to, in trees numbered from one on
+-- what its shares at x under some keys add to, in trees numbered from `tree` on
 unfoldable pub key_shares : Meaning → Provider → ℕ → List Key → ℕ → ℕ
 key_shares e p tree (k ∷ ks) x = key_share e p tree k x + key_shares e p (tree + 1) ks x
 key_shares e p tree [] x = 0

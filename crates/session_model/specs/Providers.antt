@@ -23,7 +23,7 @@ unfoldable pub share_of : TreeKind → Meaning → Provider → ℕ → Secret �
 share_of Point e p tree s roots x = point_share e p tree (own p (point_keys e tree s roots)) x
 share_of Threshold e p tree s roots x = threshold_share e p tree (own p (threshold_keys e tree s roots)) x
 
--- what its shares at x add to, over trees numbered from one on, each with its secret and its roots
+-- what its shares at x add to, over trees numbered from `tree` on, each with its secret and its roots
 unfoldable pub shares_of : Meaning → Provider → ℕ → List Secret → List (ℕ × ℕ) → ℕ → ℕ
 shares_of e p tree (s ∷ ss) (r ∷ rs) x = share_of s.kind e p tree s r x + shares_of e p (tree + 1) ss rs x
 shares_of e p tree _ _ x = 0

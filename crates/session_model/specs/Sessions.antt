@@ -24,7 +24,7 @@ use Rattle.session_model.specs.Answers.{answer_bytes}
 
 -- ---- key frames
 
--- the frame of a provider's keys of these secrets, in trees numbered from one on: a session's number, a round, a query's text and a shape
+-- the frame of a provider's keys of these secrets, in trees numbered from `tree` on: a session's number, a round, a query's text and a shape
 abbrev pub frame_of : Meaning → Provider → ℕ → ℕ → ℕ → List ℕ → ShapeParts → List Secret → List (ℕ × ℕ) → KeyFrame
 frame_of e p session round tree query shape secrets roots =
     record { session = session; round = round; provider = p; query = query; shape = shape; keys = key_list e p tree secrets roots }
