@@ -11,7 +11,7 @@ use Rattle.splinter_status.specs.declared.stops.InputStop.TheVariants as input
 use Rattle.splinter_status.specs.declared.stops.Stopped.{Stopped}
 use Rattle.splinter_status.specs.declared.stops.Stopped.TheVariants as stopped
 use Rattle.splinter_status.specs.Ends.{end_of, EndsAs, Reports}
-use Rattle.splinter_commands.specs.Commands.{Ready, combine_ready, combined, judged, printed}
+use Rattle.splinter_commands.specs.Commands.{Ready, combine_ready, combined, judged, printed, words_for}
 use Rattle.splinter_commands.specs.Meets.{Meets, Refuses}
 use Rattle.splinter_commands.specs.Sessions.{HoldsSession}
 use Rattle.splinter_cli.specs.Prints.{EndsWith, IsFault}
@@ -58,14 +58,19 @@ ready_done T text (Some m) held order (Some ws) left (Some w) t shown result now
     let own : text t ≡ printed x ws = subst (λ k. IfOk k (λ y. text t ≡ printed y ws)) is meets.tells.0 in
     printed_text (printed x ws) w result now (subst (λ b. Reports w b status.Done result now) (same ∙ own) reports)
 
--- so is that of a session whose files `combine` reads
+in_sink : (taken : Option (List ℕ)) (w : List ℕ) (P : List ℕ → List ℕ → Type 0) → IfSome taken (λ ws. IfSome (Some w) (λ v. P ws v)) → IfSome taken (λ ws. P ws w)
+in_sink None w P h = tt
+in_sink (Some ws) w P h = h
+
+-- so is that of a session whose files `combine` reads, which draws no words
 pub session_ends : (files : Option FileMap) (order : Option Order) (words sink : Option (List ℕ)) (result : Status) (now : Option (List ℕ))
     → ((s : Session) (o : CombineOrder) (m : FileMap) → IsSession s → AllByRecursion (λ x. x < 2 ^ 64) s.words → HoldsSession s o m → combine_ready o m ≡ Ok (combined (own_text s)))
-    → IfSome files (λ m. IfSome words (λ ws. IfSome sink (λ w. (x : Ready) → judged order m ≡ Ok x → EndsWith (printed x ws) result w now)))
-    → IfSome files (λ m. IfSome words (λ ws. IfSome sink (λ w. (s : Session) (o : CombineOrder) → order ≡ Some (combine o) → IsSession s → AllByRecursion (λ x. x < 2 ^ 64) s.words → HoldsSession s o m
-    → EndsWith (own_text s) result w now)))
+    → IfSome files (λ m. IfSome (words_for order words) (λ ws. IfSome sink (λ w. (x : Ready) → judged order m ≡ Ok x → EndsWith (printed x ws) result w now)))
+    → IfSome files (λ m. IfSome sink (λ w. (s : Session) (o : CombineOrder) → order ≡ Some (combine o) → IsSession s → AllByRecursion (λ x. x < 2 ^ 64) s.words → HoldsSession s o m
+    → EndsWith (own_text s) result w now))
 session_ends None order words sink result now law ends = tt
-session_ends (Some m) order None sink result now law ends = tt
-session_ends (Some m) order (Some ws) None result now law ends = tt
-session_ends (Some m) order (Some ws) (Some w) result now law ends = λ s o is session drawn holds.
-    ends (combined (own_text s)) (subst (λ k. judged k m ≡ Ok (combined (own_text s))) (sym is) (law s o m session drawn holds))
+session_ends (Some m) order words None result now law ends = tt
+session_ends (Some m) order words (Some w) result now law ends = λ s o is session drawn holds.
+    let each = in_sink (words_for order words) w (λ ws v. (x : Ready) → judged order m ≡ Ok x → EndsWith (printed x ws) result v now) ends in
+    subst (λ k. IfSome (words_for k words) (λ ws. (x : Ready) → judged k m ≡ Ok x → EndsWith (printed x ws) result w now)) is each
+    (combined (own_text s)) (law s o m session drawn holds)

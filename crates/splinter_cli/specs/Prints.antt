@@ -1,6 +1,9 @@
--- What `run` leaves in the sink and in the files.
-use Rattle.std.specs.Prelude.{◌≡◌, ◌⊎◌, ℕ, List, ◌++◌, take, drop, Option, Some, IfSome, Result, Ok, Err}
+-- What `run` takes for an order, and what it leaves in the sink and in the files.
+use Rattle.std.specs.Prelude.{◌≡◌, ◌⊎◌, ℕ, List, ◌++◌, map, take, drop, String, string_bytes, Option, Some, IfSome, Result, Ok, Err}
+use Rattle.std.specs.Global.{Global}
 use Rattle.spl_outside.specs.Content.{FileMap}
+use Rattle.command_words.specs.Orders.{Order}
+use Rattle.command_words.specs.Forms.{form_of}
 use Rattle.splinter_status.specs.declared.status.Status.{Status}
 use Rattle.splinter_status.specs.declared.status.Status.TheVariants as status
 use Rattle.splinter_status.specs.declared.stops.Refusal.{Refusal}
@@ -9,7 +12,11 @@ use Rattle.splinter_status.specs.Texts.{line_of}
 use Rattle.splinter_steps.specs.Writes.{put_all, PutsSome}
 use Rattle.splinter_commands.specs.Commands.{Ready, draws, outputs, printed}
 
--- the text of the command was appended, its words were drawn, and its files were written
+-- the order that the words of the command line mean, if they mean one
+abbrev pub order_of : List (String Global) → Option Order
+order_of words = form_of (map string_bytes words)
+
+-- the text of the command was appended, and its words were drawn
 abbrev pub Prints : Result Ready Refusal → List ℕ → Option (List ℕ) → List ℕ → Option (List ℕ) → Type 0
 Prints (Ok x) words left before now = (now ≡ Some (before ++ printed x words)) × (left ≡ Some (drop (draws (Ok x)) words))
 Prints (Err r) words left before now = ⊥
@@ -23,6 +30,11 @@ Writes (Err r) words m now = ⊥
 abbrev pub WritesSome : Result Ready Refusal → List ℕ → FileMap → Option FileMap → Type 0
 WritesSome (Ok x) words m now = PutsSome (outputs x words) m now
 WritesSome (Err r) words m now = now ≡ Some m
+
+-- a command that nothing refuses has written its files, unless there was that fault
+abbrev pub WritesUnless : Result Ready Refusal → List ℕ → FileMap → Option FileMap → Type 0 → Type 0
+WritesUnless (Ok x) words m now fault = (now ≡ Some (put_all (outputs x words) m)) ⊎ fault
+WritesUnless (Err r) words m now fault = Unit {0}
 
 -- the texts that may be printed: the line of the refusal or of a fault, or the command's text
 abbrev pub MayPrint : Result Ready Refusal → Option (List ℕ) → List ℕ → Type 0

@@ -109,6 +109,18 @@ abbrev pub draws : Result Ready Refusal → ℕ
 draws (Err r) = 0
 draws (Ok x) = words_of x
 
+-- the command draws no words
+abbrev pub DrawsNone : Option Order → Type 0
+DrawsNone (Some (answer o)) = Unit {0}
+DrawsNone (Some (combine o)) = Unit {0}
+DrawsNone form = ⊥
+
+-- the words to come that a command takes, where they are told; one that draws none takes none, told or not
+abbrev pub words_for : Option Order → Option (List ℕ) → Option (List ℕ)
+words_for (Some (answer o)) words = Some []
+words_for (Some (combine o)) words = Some []
+words_for form words = words
+
 -- ---- what is written
 
 -- the note and the key files of a round, in the order in which they are written
@@ -158,6 +170,11 @@ trace_text t words = round_text (provider_words Zero t words) (provider_words On
 -- which round of how many was begun
 abbrev pub begun_text : ℕ → List ℕ
 begun_text rounds = codes "round 1 of " ++ (decimal rounds ++ codes "\n")
+
+-- the command prints nothing
+abbrev pub IsSilent : Option Order → Type 0
+IsSilent (Some (answer o)) = Unit {0}
+IsSilent form = ⊥
 
 -- what a command prints, given the words to come
 abbrev pub printed : Ready → List ℕ → List ℕ

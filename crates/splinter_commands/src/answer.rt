@@ -1,5 +1,5 @@
 //! The command `answer`: one provider answers one key file.
-ghost use Rattle.std.specs.Prelude.{◌≡◌, [], ◌∷◌, Ok, IfSome, IfErr, IsErrOf};
+ghost use Rattle.std.specs.Prelude.{◌≡◌, [], ◌∷◌, Ok, IfSome, IfOk, IfErr, IsErrOf};
 ghost use Rattle.spl_outside.specs.Causes.{HasCause};
 ghost use Rattle.spl_outside.specs.Content.{KeepsBut};
 ghost use Rattle.seed_expansion.specs.ChaChaExpansion.{chacha};
@@ -90,6 +90,7 @@ pub fn answer<T: Threads + Sync, F: Files, G: Gate + Sync>(
     ensures file_fault { HasCause (F.faults files.old) (F.faults files.new) (IsErrOf result (stopped.Input input.FileFault)) }
     ensures late_fault { HasCause (F.faults files.old) (F.faults files.new) (IsErrOf result Stopped.FileFault) }
     ensures no_draw { IsErrOf result Stopped.DrawFault → ⊥ }
+    ensures silent { IfOk result (λ text. text.items ≡ []) }
 {
     let bytes = answer_files(rt, alloc, files, words, gate)?;
     let output = Output {

@@ -26,8 +26,11 @@ use std::alloc::{AllocError, Global};
 /// An accepted query that is built, its parameters, and the shape of the table that is asked.
 #[derive(Debug, Drop)]
 pub struct Question {
+    /// What is known of the query.
     pub checked: Checked,
+    /// The codes of its parameters.
     pub params: Params,
+    /// The shape of the tables that are asked.
     pub shape: Shape,
 }
 
@@ -99,6 +102,8 @@ pub fn keys<F: Files, R: Draw>(
     ensures others { IfSome (F.held files.old) (λ m. KeepsBut (keys_names (keys_order words.now)) m (F.held files.new)) }
     ensures refusals { IfErr result EndsAtFiles }
     ensures untouched { (s : _) → result ≡ Err (stopped.Input s) → (draw.new ≡ draw.old) × (F.held files.new ≡ F.held files.old) }
+    // All words are drawn before the first file is written.
+    ensures unwritten { IsErrOf result Stopped.DrawFault → F.held files.new ≡ F.held files.old }
     ensures file_fault { HasCause (F.faults files.old) (F.faults files.new) (IsErrOf result (stopped.Input input.FileFault)) }
     ensures late_fault { HasCause (F.faults files.old) (F.faults files.new) (IsErrOf result Stopped.FileFault) }
     ensures draw { HasCause (R.faults draw.old) (R.faults draw.new) (IsErrOf result Stopped.DrawFault) }

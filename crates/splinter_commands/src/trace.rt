@@ -32,8 +32,11 @@ use std::thread::Threads;
 /// An accepted query that is built, its parameters, and a table of its schema whose sums are within their bounds.
 #[derive(Debug, Drop)]
 pub struct Traced {
+    /// What is known of the query.
     pub checked: Checked,
+    /// The codes of its parameters.
     pub params: Params,
+    /// The table that both providers hold.
     pub table: Table,
 }
 

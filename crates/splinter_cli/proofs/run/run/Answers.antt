@@ -9,7 +9,7 @@ use Rattle.csv_tables.specs.declared.fault.TableFault.{TableFault}
 use Rattle.splinter_status.specs.declared.status.Part.{Part}
 use Rattle.splinter_status.specs.declared.stops.Refusal.TheVariants as refusal
 use Rattle.splinter_status.specs.declared.stops.Stopped.{Stopped}
-use Rattle.splinter_cli.proofs.Cut.{cut_stopped, drawn_stopped}
+use Rattle.splinter_cli.proofs.Cut.{cut_stopped, drawn_stopped, last_done, last_stopped}
 use Rattle.splinter_cli.proofs.Done.{ready_done, ready_stopped, session_ends}
 use Rattle.splinter_cli.proofs.Refused.{both_come, each_comes, early_where, sums_come}
 use Rattle.splinter_cli.proofs.Written.{says_refusal, some_done, some_stopped}
@@ -121,9 +121,20 @@ returns-in-Ok-clause-ready g c =
 pub returns-in-Err-clause-session : goal.returns-in-Err-clause-session
 returns-in-Err-clause-session g c =
     let meets = rw c.deref.ensures.value at c.in-Err.ensures.told in
-    session_ends _ _ _ _ _ _ c.own_sessions_are_combined.ensures (ready_stopped _ _ _ _ _ _ _ _ _ _ _ meets c.refuse.ensures.ends)
+    session_ends _ _ (g.R.Draw.words c.args.draw.now) _ _ _ c.own_sessions_are_combined.ensures (ready_stopped _ _ _ _ _ _ _ _ _ _ _ meets c.refuse.ensures.ends)
 
 pub returns-in-Ok-clause-session : goal.returns-in-Ok-clause-session
 returns-in-Ok-clause-session g c =
     let meets = rw c.deref.ensures.value at c.in-Ok.ensures.told in
-    session_ends _ _ _ _ _ _ c.own_sessions_are_combined.ensures (ready_done _ _ _ _ _ _ _ _ _ _ _ _ meets c.deref-in-Ok.ensures.value c.print_text.ensures.told)
+    session_ends _ _ (g.R.Draw.words c.args.draw.now) _ _ _ c.own_sessions_are_combined.ensures (ready_done _ _ _ _ _ _ _ _ _ _ _ _ meets c.deref-in-Ok.ensures.value c.print_text.ensures.told)
+
+pub returns-in-Err-clause-last : goal.returns-in-Err-clause-last
+returns-in-Err-clause-last g c = λ is.
+    let meets = rw c.deref.ensures.value at c.in-Err.ensures.told in
+    last_stopped _ _ _ _ _ _ _ _ _ _ _ meets (λ e. (c.refuse.ensures.quiet e).0) is
+    (λ same. c.in-Err.ensures.file_fault.cause (ap (λ (s : Stopped). Err s) same)) (λ same. c.in-Err.ensures.late_fault.cause (ap (λ (s : Stopped). Err s) same)) (λ same. c.in-Err.ensures.draw.cause (ap (λ (s : Stopped). Err s) same))
+
+pub returns-in-Ok-clause-last : goal.returns-in-Ok-clause-last
+returns-in-Ok-clause-last g c = λ is.
+    let meets = rw c.deref.ensures.value at c.in-Ok.ensures.told in
+    last_done _ _ _ _ _ _ _ _ _ meets
