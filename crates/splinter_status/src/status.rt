@@ -8,10 +8,15 @@ use sum_bounds::AtRow;
 /// A part of the tool.
 #[derive(Clone, Copy, Debug, PartialEq, Eq)]
 pub enum Part {
+    /// Some tables.
     Table,
+    /// Some shapes.
     Shape,
+    /// Some queries.
     Query,
+    /// Some parameters.
     Parameter,
+    /// Some plans of queries: today those of MAX, MIN and TOPK.
     Plan,
 }
 

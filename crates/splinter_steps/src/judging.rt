@@ -20,7 +20,9 @@ use std::alloc::Global;
 /// An accepted query of counts, sums and means, and its parameters.
 #[derive(Debug, Drop)]
 pub struct Asked {
+    /// What is known of the query.
     pub checked: Checked,
+    /// The codes of its parameters.
     pub params: Params,
 }
 

@@ -12,7 +12,9 @@ use std::alloc::Global;
 /// A file to be written.
 #[derive(Drop)]
 pub struct Output<'a> {
+    /// Its name.
     pub name: &'a str,
+    /// What it is to hold.
     pub bytes: &'a [u8],
 }
 
