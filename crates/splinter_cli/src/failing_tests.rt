@@ -1,19 +1,19 @@
 //! What comes where a call to the files, the random words or the output fails.
-use crate::testing::{Fails, copied, files_of, run_failing, run_steady};
-use spl_outside::{MemoryFiles, SteadyFiles};
+use crate::testing::{
+    ANSWER_ZERO, COMBINE, DRAWN, Fails, answered, copied, failing_files, run_failing,
+};
+use spl_outside::MemoryFiles;
 use std::alloc::Global;
 use std::test::Fail;
 use std::thread::Threads;
 
 const SHAPE: &str = "table t\nrows 3\na TEXT(3)\n";
 
-const TABLE: &str = "a\nSFO\nAB\nSFO\n";
+const TABLE: &[u8] = b"a\nSFO\nAB\nSFO\n";
 
 const QUERY: &str = "SELECT COUNT(*) FROM t WHERE a = ?";
 
 const TRACED: &str = "round 1\n0 16090548693313912908\n1 2356195380395638710\nCOUNT(*) 2\n";
-
-const DRAWN: [u64; 7] = [1, 2, 3, 4, 5, 6, 7];
 
 const FILE_FAULT: &str = "splinter: file fault\n";
 
@@ -23,30 +23,15 @@ const TRACE: [&str; 5] = ["trace", "shape", "table", QUERY, "SFO"];
 
 const KEYS: [&str; 7] = ["keys", "shape", QUERY, "note", "key0", "key1", "SFO"];
 
-const ANSWER_ZERO: [&str; 6] = ["answer", "0", "shape", "table", "key0", "answer0"];
-
-const ANSWER_ONE: [&str; 6] = ["answer", "1", "shape", "table", "key1", "answer1"];
-
-const COMBINE: [&str; 4] = ["combine", "note", "answer0", "answer1"];
-
-/// The files of a session, up to its answers.
-fn answered<T: Threads + Sync>(rt: &T, alloc: Global) -> Result<SteadyFiles, Fail> {
-    let mut files = files_of(alloc, &[("shape", SHAPE), ("table", TABLE)])?;
-    run_steady(rt, alloc, &KEYS, &mut files, &DRAWN)?;
-    run_steady(rt, alloc, &ANSWER_ZERO, &mut files, &DRAWN)?;
-    run_steady(rt, alloc, &ANSWER_ONE, &mut files, &DRAWN)?;
-    Ok(files)
-}
-
 /// Some of the files of a session, whose chosen call fails.
 fn holding<T: Threads + Sync>(
     rt: &T,
     alloc: Global,
     names: &[&str],
-    fails: u64,
+    fails: Option<u64>,
 ) -> Result<MemoryFiles, Fail> {
-    let whole = answered(rt, alloc)?;
-    let mut files = MemoryFiles::new(alloc, vec![in alloc; fails]?);
+    let whole = answered(rt, alloc, SHAPE, TABLE, &KEYS)?;
+    let mut files = failing_files(alloc, fails)?;
     for name in names {
         let bytes = copied(alloc, &whole, name)?;
         files.put(name, &bytes)?;
@@ -65,27 +50,31 @@ fn are_written(files: &MemoryFiles, count: u8) -> bool {
 #[test]
 fn trace_stops_where_a_call_fails(rt: HostRuntime) -> Result<(), Fail> {
     for (files, draw, out, number, printed, next) in [
-        (1, 0, 0, 12, FILE_FAULT, 1),
-        (2, 0, 0, 12, FILE_FAULT, 1),
-        (3, 0, 0, 0, TRACED, 7),
-        (0, 1, 0, 14, DRAW_FAULT, 1),
-        (0, 2, 0, 14, DRAW_FAULT, 2),
-        (0, 3, 0, 14, DRAW_FAULT, 3),
-        (0, 4, 0, 14, DRAW_FAULT, 4),
-        (0, 5, 0, 14, DRAW_FAULT, 5),
-        (0, 6, 0, 14, DRAW_FAULT, 6),
-        (0, 7, 0, 0, TRACED, 7),
-        (0, 0, 1, 13, "", 7),
-        (0, 0, 2, 0, TRACED, 7),
-        (1, 1, 1, 13, "", 1),
-        (0, 3, 1, 13, "", 3),
+        (Some(1), None, None, 12, FILE_FAULT, 1),
+        (Some(2), None, None, 12, FILE_FAULT, 1),
+        (Some(3), None, None, 0, TRACED, 7),
+        (None, Some(1), None, 14, DRAW_FAULT, 1),
+        (None, Some(2), None, 14, DRAW_FAULT, 2),
+        (None, Some(3), None, 14, DRAW_FAULT, 3),
+        (None, Some(4), None, 14, DRAW_FAULT, 4),
+        (None, Some(5), None, 14, DRAW_FAULT, 5),
+        (None, Some(6), None, 14, DRAW_FAULT, 6),
+        (None, Some(7), None, 0, TRACED, 7),
+        (None, None, Some(1), 13, "", 7),
+        (None, None, Some(2), 0, TRACED, 7),
+        (Some(1), Some(1), Some(1), 13, "", 1),
+        (None, Some(3), Some(1), 13, "", 3),
     ] {
         let mut held = holding(&rt, rt.alloc(), &["shape", "table"], files)?;
         let fails = Fails { draw, out };
         let left = run_failing(&rt, rt.alloc(), &TRACE, &mut held, &DRAWN, fails)?;
-        assert_eq!(rt; left.number, number, "{files}, {draw}, {out}");
-        assert_eq!(rt; left.printed.as_str(), printed, "{files}, {draw}, {out}");
-        assert_eq!(rt; left.next, next, "{files}, {draw}, {out}");
+        assert_eq!(rt; left.number, number, "{files:?}, {draw:?}, {out:?}");
+        assert_eq!(rt;
+            left.printed.as_str(),
+            printed,
+            "{files:?}, {draw:?}, {out:?}"
+        );
+        assert_eq!(rt; left.next, next, "{files:?}, {draw:?}, {out:?}");
     }
     Ok(())
 }
@@ -95,29 +84,33 @@ fn trace_stops_where_a_call_fails(rt: HostRuntime) -> Result<(), Fail> {
 fn keys_stops_where_a_call_fails(rt: HostRuntime) -> Result<(), Fail> {
     let begun = "round 1 of 1\n";
     for (files, draw, out, number, printed, written) in [
-        (1, 0, 0, 12, FILE_FAULT, 0),
-        (2, 0, 0, 12, FILE_FAULT, 0),
-        (3, 0, 0, 12, FILE_FAULT, 1),
-        (4, 0, 0, 12, FILE_FAULT, 2),
-        (5, 0, 0, 0, begun, 3),
-        (0, 1, 0, 14, DRAW_FAULT, 0),
-        (0, 2, 0, 14, DRAW_FAULT, 0),
-        (0, 3, 0, 14, DRAW_FAULT, 0),
-        (0, 4, 0, 14, DRAW_FAULT, 0),
-        (0, 5, 0, 14, DRAW_FAULT, 0),
-        (0, 6, 0, 14, DRAW_FAULT, 0),
-        (0, 7, 0, 0, begun, 3),
-        (0, 0, 1, 13, "", 3),
-        (0, 0, 2, 0, begun, 3),
-        (3, 0, 1, 13, "", 1),
-        (2, 6, 0, 14, DRAW_FAULT, 0),
+        (Some(1), None, None, 12, FILE_FAULT, 0),
+        (Some(2), None, None, 12, FILE_FAULT, 0),
+        (Some(3), None, None, 12, FILE_FAULT, 1),
+        (Some(4), None, None, 12, FILE_FAULT, 2),
+        (Some(5), None, None, 0, begun, 3),
+        (None, Some(1), None, 14, DRAW_FAULT, 0),
+        (None, Some(2), None, 14, DRAW_FAULT, 0),
+        (None, Some(3), None, 14, DRAW_FAULT, 0),
+        (None, Some(4), None, 14, DRAW_FAULT, 0),
+        (None, Some(5), None, 14, DRAW_FAULT, 0),
+        (None, Some(6), None, 14, DRAW_FAULT, 0),
+        (None, Some(7), None, 0, begun, 3),
+        (None, None, Some(1), 13, "", 3),
+        (None, None, Some(2), 0, begun, 3),
+        (Some(3), None, Some(1), 13, "", 1),
+        (Some(2), Some(6), None, 14, DRAW_FAULT, 0),
     ] {
         let mut held = holding(&rt, rt.alloc(), &["shape"], files)?;
         let fails = Fails { draw, out };
         let left = run_failing(&rt, rt.alloc(), &KEYS, &mut held, &DRAWN, fails)?;
-        assert_eq!(rt; left.number, number, "{files}, {draw}, {out}");
-        assert_eq!(rt; left.printed.as_str(), printed, "{files}, {draw}, {out}");
-        assert!(rt; are_written(&held, written), "{files}, {draw}, {out}");
+        assert_eq!(rt; left.number, number, "{files:?}, {draw:?}, {out:?}");
+        assert_eq!(rt;
+            left.printed.as_str(),
+            printed,
+            "{files:?}, {draw:?}, {out:?}"
+        );
+        assert!(rt; are_written(&held, written), "{files:?}, {draw:?}, {out:?}");
     }
     Ok(())
 }
@@ -126,21 +119,25 @@ fn keys_stops_where_a_call_fails(rt: HostRuntime) -> Result<(), Fail> {
 #[test]
 fn answer_stops_where_a_call_fails(rt: HostRuntime) -> Result<(), Fail> {
     for (files, out, number, printed, written) in [
-        (1, 0, 12, FILE_FAULT, false),
-        (2, 0, 12, FILE_FAULT, false),
-        (3, 0, 12, FILE_FAULT, false),
-        (4, 0, 12, FILE_FAULT, false),
-        (5, 0, 0, "", true),
-        (0, 1, 0, "", true),
-        (1, 1, 13, "", false),
-        (4, 1, 13, "", false),
+        (Some(1), None, 12, FILE_FAULT, false),
+        (Some(2), None, 12, FILE_FAULT, false),
+        (Some(3), None, 12, FILE_FAULT, false),
+        (Some(4), None, 12, FILE_FAULT, false),
+        (Some(5), None, 0, "", true),
+        (None, Some(1), 0, "", true),
+        (Some(1), Some(1), 13, "", false),
+        (Some(4), Some(1), 13, "", false),
     ] {
         let mut held = holding(&rt, rt.alloc(), &["shape", "table", "key0"], files)?;
-        let fails = Fails { draw: 1, out };
+        let fails = Fails { draw: Some(1), out };
         let left = run_failing(&rt, rt.alloc(), &ANSWER_ZERO, &mut held, &DRAWN, fails)?;
-        assert_eq!(rt; left.number, number, "{files}, {out}");
-        assert_eq!(rt; left.printed.as_str(), printed, "{files}, {out}");
-        assert_eq!(rt; held.get("answer0").is_some(), written, "{files}, {out}");
+        assert_eq!(rt; left.number, number, "{files:?}, {out:?}");
+        assert_eq!(rt; left.printed.as_str(), printed, "{files:?}, {out:?}");
+        assert_eq!(rt;
+            held.get("answer0").is_some(),
+            written,
+            "{files:?}, {out:?}"
+        );
     }
     Ok(())
 }
@@ -149,28 +146,31 @@ fn answer_stops_where_a_call_fails(rt: HostRuntime) -> Result<(), Fail> {
 fn combine_stops_where_a_call_fails(rt: HostRuntime) -> Result<(), Fail> {
     let text = "COUNT(*) 2\n";
     for (files, out, number, printed) in [
-        (1, 0, 12, FILE_FAULT),
-        (2, 0, 12, FILE_FAULT),
-        (3, 0, 12, FILE_FAULT),
-        (4, 0, 0, text),
-        (0, 1, 13, ""),
-        (0, 2, 0, text),
-        (2, 1, 13, ""),
+        (Some(1), None, 12, FILE_FAULT),
+        (Some(2), None, 12, FILE_FAULT),
+        (Some(3), None, 12, FILE_FAULT),
+        (Some(4), None, 0, text),
+        (None, Some(1), 13, ""),
+        (None, Some(2), 0, text),
+        (Some(2), Some(1), 13, ""),
     ] {
         let mut held = holding(&rt, rt.alloc(), &["note", "answer0", "answer1"], files)?;
-        let fails = Fails { draw: 1, out };
+        let fails = Fails { draw: Some(1), out };
         let left = run_failing(&rt, rt.alloc(), &COMBINE, &mut held, &DRAWN, fails)?;
-        assert_eq!(rt; left.number, number, "{files}, {out}");
-        assert_eq!(rt; left.printed.as_str(), printed, "{files}, {out}");
+        assert_eq!(rt; left.number, number, "{files:?}, {out:?}");
+        assert_eq!(rt; left.printed.as_str(), printed, "{files:?}, {out:?}");
     }
     Ok(())
 }
 
 #[test]
 fn refuses_before_a_call_that_would_fail(rt: HostRuntime) -> Result<(), Fail> {
-    let mut held = holding(&rt, rt.alloc(), &["shape", "table"], 2)?;
+    let mut held = holding(&rt, rt.alloc(), &["shape", "table"], Some(2))?;
     let words = ["trace", "shape", "table", QUERY, "SFOX"];
-    let fails = Fails { draw: 1, out: 0 };
+    let fails = Fails {
+        draw: Some(1),
+        out: None,
+    };
     let left = run_failing(&rt, rt.alloc(), &words, &mut held, &DRAWN, fails)?;
     assert_eq!(rt; (left.number, left.next), (4, 1));
     assert_eq!(rt; left.printed.as_str(), "splinter: parameter 0: too long\n");
@@ -179,8 +179,11 @@ fn refuses_before_a_call_that_would_fail(rt: HostRuntime) -> Result<(), Fail> {
 
 #[test]
 fn runs_out_of_words(rt: HostRuntime) -> Result<(), Fail> {
-    let mut held = holding(&rt, rt.alloc(), &["shape", "table"], 0)?;
-    let fails = Fails { draw: 0, out: 0 };
+    let mut held = holding(&rt, rt.alloc(), &["shape", "table"], None)?;
+    let fails = Fails {
+        draw: None,
+        out: None,
+    };
     let left = run_failing(&rt, rt.alloc(), &TRACE, &mut held, &[1, 2, 3, 4, 5], fails)?;
     assert_eq!(rt; left.number, 14);
     assert_eq!(rt; left.printed.as_str(), DRAW_FAULT);

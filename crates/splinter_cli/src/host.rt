@@ -1,5 +1,5 @@
 //! The real files, random words and output. They tell nothing of what they hold, and count each fault.
-ghost use Rattle.std.specs.Prelude.{◌≡◌, ◌≢◌, ◌≤◌, None, IfOk, length};
+ghost use Rattle.std.specs.Prelude.{◌≡◌, ◌≢◌, ◌≤◌, ◌↔◌, None, IfOk, length};
 
 use spl_outside::{Draw, Failed, FileStop, Files, Sink, Stop};
 use std::alloc::Global;
@@ -94,7 +94,9 @@ fn write_whole<R: std::rt::Files>(rt: &R, name: &str, bytes: &[u8]) -> Result<()
 
 /// Why a file was not opened or read.
 fn stop_of(kind: ErrorKind) -> FileStop
-    ensures { result ≢ FileStop.TooLong }
+    ensures absent { (result ≡ FileStop.Absent) ↔ (kind ≡ ErrorKind.NotFound) }
+    ensures memory { (result ≡ FileStop.OutOfMemory) ↔ (kind ≡ ErrorKind.OutOfMemory) }
+    ensures limit { result ≢ FileStop.TooLong }
 {
     match kind {
         ErrorKind::NotFound => FileStop::Absent,
@@ -165,5 +167,46 @@ impl<R: Print> Sink for HostSink<R> {
                 Err(Stop::Failed)
             }
         }
+    }
+}
+
+#[cfg(test)]
+mod tests {
+    use super::{HostDraw, HostFiles};
+    use spl_outside::{Draw, FileStop, Files};
+    use std::fs;
+    use std::test::Fail;
+
+    #[test]
+    fn a_file_is_written_and_read(rt: HostRuntime) -> Result<(), Fail> {
+        let alloc = rt.alloc();
+        // In the folder that the test runs in, under a name that no other run takes.
+        let word = HostDraw::new(&rt).word()?;
+        let name = format!(in alloc; "host_files_{word}")?;
+        let mut files = HostFiles::new(&rt);
+        files.write(alloc, &name, b"first and longer")?;
+        files.write(alloc, &name, b"\x00later\xff")?;
+        assert!(rt; files.read(alloc, &name, 7)?.as_slice() == b"\x00later\xff".as_slice());
+        assert!(rt; matches!(files.read(alloc, &name, 6), Err(FileStop::TooLong)));
+        assert!(rt; matches!(files.read(alloc, "no_such_file", 7), Err(FileStop::Absent)));
+        assert_eq!(rt; files.faults, 0);
+        assert!(rt;
+            matches!(
+                files.write(alloc, "no_such_folder/a", b"a"),
+                Err(FileStop::Failed)
+            )
+        );
+        assert_eq!(rt; files.faults, 1);
+        fs::remove_file(&rt, &name)?;
+        Ok(())
+    }
+
+    #[test]
+    fn words_are_drawn(rt: HostRuntime) -> Result<(), Fail> {
+        let mut draw = HostDraw::new(&rt);
+        let first = draw.word()?;
+        assert!(rt; draw.word()? != first);
+        assert_eq!(rt; draw.faults, 0);
+        Ok(())
     }
 }

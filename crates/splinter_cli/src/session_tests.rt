@@ -1,5 +1,8 @@
 //! Sessions on files: `keys`, then `answer` for both providers, then `combine`.
-use crate::testing::{FIVE_FLIGHTS, FLIGHTS, Left, PRICES, copied, files_of, run_steady};
+use crate::testing::{
+    ANSWER_ONE, ANSWER_ZERO, COMBINE, DRAWN, FIVE_FLIGHTS, FLIGHTS, PRICES, answered, copied,
+    files_of, refuses, run_steady,
+};
 use spl_outside::SteadyFiles;
 use std::alloc::Global;
 use std::test::Fail;
@@ -21,11 +24,97 @@ const DEARER: &str =
 const BOTH_TABLES: &str =
     "differ: table 00bc3563dc4dde2ed86b69c6d9405b5a51a7142b2c42863eef70a2fdb200ceef eb722d6f2388b47b47c0ff6f6e162dbb0cb7b02d7e084f727bd495bceea3cd89";
 
-const ANSWER_ZERO: [&str; 6] = ["answer", "0", "shape", "table", "key0", "answer0"];
+/// Words that form no command.
+const NO_COMMAND: [&[&str]; 6] = [
+    &["combine", "note", "answer0"],
+    &["combine", "note", "answer0", "answer1", "answer1"],
+    &["combine", "note", "answer0", "answer1", "--x"],
+    &[
+        "answer",
+        "0",
+        "shape",
+        "table",
+        "key0",
+        "new",
+        "--workers",
+        "0",
+    ],
+    &["answer", "2", "shape", "table", "key0", "new"],
+    &["keys", "shape", PRICES, "new", "new", "key1", "SFO"],
+];
 
-const ANSWER_ONE: [&str; 6] = ["answer", "1", "shape", "table", "key1", "answer1"];
+/// Words of a provider, the status and what is said.
+const BY_PROVIDERS: [(&[&str], u8, &str); 5] = [
+    (
+        &["answer", "1", "shape", "table", "key0", "new"],
+        9,
+        "differ: provider 1 0",
+    ),
+    (
+        &["answer", "0", "four", "rows", "key0", "new"],
+        9,
+        "differ: shape line 2",
+    ),
+    (
+        &["answer", "0", "none", "table", "key0", "new"],
+        11,
+        "no file none",
+    ),
+    (
+        &["answer", "0", "shape", "rows", "none", "new"],
+        6,
+        "table: 4 rows, not 5",
+    ),
+    (
+        &["answer", "0", "shape", "table", "none", "new"],
+        11,
+        "no file none",
+    ),
+];
 
-const COMBINE: [&str; 4] = ["combine", "note", "answer0", "answer1"];
+/// Words of a client, the status and what is said.
+const BY_CLIENTS: [(&[&str], u8, &str); 10] = [
+    (
+        &[
+            "keys", "none", PRICES, "new", "key0", "key1", "SFO", "JFK", "1", "2",
+        ],
+        11,
+        "no file none",
+    ),
+    (
+        &["combine", "note", "answer0", "again"],
+        8,
+        "frame again: bad magic",
+    ),
+    (
+        &["combine", "note", "again", "none"],
+        8,
+        "frame again: bad magic",
+    ),
+    (
+        &["combine", "key0", "none", "none"],
+        8,
+        "frame key0: bad magic",
+    ),
+    (&["combine", "note", "answer0", "none"], 11, "no file none"),
+    (
+        &["combine", "note", "answer0", "answer0"],
+        22,
+        "same provider 0",
+    ),
+    (
+        &["combine", "note", "answer1", "dear1"],
+        22,
+        "same provider 1",
+    ),
+    (&["combine", "note", "answer0", "dear1"], 9, BOTH_TABLES),
+    (&["combine", "note", "dear1", "answer0"], 9, BOTH_TABLES),
+    (
+        &["combine", "none", "answer0", "answer1"],
+        11,
+        "no file none",
+    ),
+];
 
 /// The words that begin a session about the flights in a range of prices.
 const fn keys_of<'a>(low: &'a str, high: &'a str) -> [&'a str; 10] {
@@ -34,28 +123,15 @@ const fn keys_of<'a>(low: &'a str, high: &'a str) -> [&'a str; 10] {
     ]
 }
 
-/// Runs the words, with the words from 1 on drawn.
-fn ran<T: Threads + Sync>(
+/// The files after both providers have answered about the flights in a range of prices.
+fn asked<T: Threads + Sync>(
     rt: &T,
     alloc: Global,
-    files: &mut SteadyFiles,
-    words: &[&str],
-) -> Result<Left, Fail> {
-    run_steady(rt, alloc, words, files, &[1, 2, 3, 4, 5, 6, 7, 8, 9, 10])
-}
-
-/// The files of flights, before any session.
-fn flights(alloc: Global) -> Result<SteadyFiles, Fail> {
-    Ok(files_of(alloc, &[("shape", FLIGHTS), ("table", FIVE_FLIGHTS)])?)
-}
-
-/// The files after both providers have answered about the prices from 300 to 500.
-fn answered<T: Threads + Sync>(rt: &T, alloc: Global) -> Result<SteadyFiles, Fail> {
-    let mut files = flights(alloc)?;
-    ran(rt, alloc, &mut files, &keys_of("300", "500"))?;
-    ran(rt, alloc, &mut files, &ANSWER_ZERO)?;
-    ran(rt, alloc, &mut files, &ANSWER_ONE)?;
-    Ok(files)
+    low: &str,
+    high: &str,
+) -> Result<SteadyFiles, Fail> {
+    let keys = keys_of(low, high);
+    answered(rt, alloc, FLIGHTS, FIVE_FLIGHTS.as_bytes(), &keys)
 }
 
 #[test]
@@ -71,9 +147,9 @@ fn sessions_come_to_their_answers(rt: HostRuntime) -> Result<(), Fail> {
             (&COMBINE, text),
             (&["combine", "note", "answer1", "answer0"], text),
         ];
-        let mut files = flights(rt.alloc())?;
+        let mut files = files_of(rt.alloc(), FLIGHTS, FIVE_FLIGHTS.as_bytes())?;
         for (words, printed) in &steps {
-            let left = ran(&rt, rt.alloc(), &mut files, words)?;
+            let left = run_steady(&rt, rt.alloc(), words, &mut files, &DRAWN)?;
             assert_eq!(rt; left.number, 0, "{low} {printed}");
             assert_eq!(rt; left.printed.as_str(), *printed);
         }
@@ -81,24 +157,28 @@ fn sessions_come_to_their_answers(rt: HostRuntime) -> Result<(), Fail> {
     Ok(())
 }
 
+// A range that no price is in gives the same lengths.
 #[test]
 fn files_of_a_session_have_their_lengths(rt: HostRuntime) -> Result<(), Fail> {
-    let files = answered(&rt, rt.alloc())?;
-    for (name, length) in [
-        ("note", 405),
-        ("key0", 4523),
-        ("key1", 4523),
-        ("answer0", 147),
-        ("answer1", 147),
-    ] {
-        assert_eq!(rt; copied(rt.alloc(), &files, name)?.len(), length, "{name}");
+    for (low, high) in [("300", "500"), ("500", "300")] {
+        let files = asked(&rt, rt.alloc(), low, high)?;
+        for (name, length) in [
+            ("note", 405),
+            ("key0", 4523),
+            ("key1", 4523),
+            ("answer0", 147),
+            ("answer1", 147),
+        ] {
+            let bytes = copied(rt.alloc(), &files, name)?;
+            assert_eq!(rt; bytes.len(), length, "{name}, from {low}");
+        }
     }
     Ok(())
 }
 
 #[test]
 fn workers_write_the_same_answer(rt: HostRuntime) -> Result<(), Fail> {
-    let mut files = answered(&rt, rt.alloc())?;
+    let mut files = asked(&rt, rt.alloc(), "300", "500")?;
     let answer = copied(rt.alloc(), &files, "answer0")?;
     for workers in ["1", "2", "3", "64"] {
         let words = [
@@ -111,48 +191,17 @@ fn workers_write_the_same_answer(rt: HostRuntime) -> Result<(), Fail> {
             "--workers",
             workers,
         ];
-        let left = ran(&rt, rt.alloc(), &mut files, &words)?;
+        let left = run_steady(&rt, rt.alloc(), &words, &mut files, &DRAWN)?;
         assert_eq!(rt; left.number, 0, "{workers}");
         assert_eq!(rt; copied(rt.alloc(), &files, workers)?, answer, "{workers}");
     }
     Ok(())
 }
 
-/// The words are refused with this status and this line, and leave no file `new`.
-fn refuses<T: Threads + Sync>(
-    rt: &T,
-    alloc: Global,
-    files: &mut SteadyFiles,
-    words: &[&str],
-    number: u8,
-    text: &str,
-) -> Result<bool, Fail> {
-    let left = ran(rt, alloc, files, words)?;
-    let line = format!(in alloc; "splinter: {text}\n")?;
-    Ok(left.number == number && left.printed == line && files.get("new").is_none())
-}
-
 #[test]
 fn words_that_form_no_command(rt: HostRuntime) -> Result<(), Fail> {
-    let rows: [&[&str]; 6] = [
-        &["combine", "note", "answer0"],
-        &["combine", "note", "answer0", "answer1", "answer1"],
-        &["combine", "note", "answer0", "answer1", "--x"],
-        &[
-            "answer",
-            "0",
-            "shape",
-            "table",
-            "key0",
-            "new",
-            "--workers",
-            "0",
-        ],
-        &["answer", "2", "shape", "table", "key0", "new"],
-        &["keys", "shape", PRICES, "new", "new", "key1", "SFO"],
-    ];
-    let mut files = answered(&rt, rt.alloc())?;
-    for words in &rows {
+    let mut files = asked(&rt, rt.alloc(), "300", "500")?;
+    for words in &NO_COMMAND {
         assert!(rt; refuses(&rt, rt.alloc(), &mut files, words, 2, "usage")?);
     }
     Ok(())
@@ -161,7 +210,7 @@ fn words_that_form_no_command(rt: HostRuntime) -> Result<(), Fail> {
 #[test]
 fn key_files_that_are_bent(rt: HostRuntime) -> Result<(), Fail> {
     let alloc = rt.alloc();
-    let mut files = answered(&rt, alloc)?;
+    let mut files = asked(&rt, alloc, "300", "500")?;
     let mut key = copied(alloc, &files, "key0")?;
     key.push(0)?;
     files.put("long", &key)?;
@@ -182,14 +231,14 @@ fn key_files_that_are_bent(rt: HostRuntime) -> Result<(), Fail> {
 // The seed of the first level begins at byte 233.
 #[test]
 fn one_bit_of_a_key_file(rt: HostRuntime) -> Result<(), Fail> {
-    let mut files = answered(&rt, rt.alloc())?;
+    let mut files = asked(&rt, rt.alloc(), "300", "500")?;
     let mut key = copied(rt.alloc(), &files, "key0")?;
     if let Some(byte) = key.get_mut(240) {
         *byte ^= 1;
     }
     files.put("bent", &key)?;
     let words = ["answer", "0", "shape", "table", "bent", "new"];
-    let left = ran(&rt, rt.alloc(), &mut files, &words)?;
+    let left = run_steady(&rt, rt.alloc(), &words, &mut files, &DRAWN)?;
     assert_eq!(rt; left.number, 8);
     let Some(digests) = left
         .printed
@@ -204,37 +253,10 @@ fn one_bit_of_a_key_file(rt: HostRuntime) -> Result<(), Fail> {
 
 #[test]
 fn what_a_provider_refuses(rt: HostRuntime) -> Result<(), Fail> {
-    let mut files = answered(&rt, rt.alloc())?;
+    let mut files = asked(&rt, rt.alloc(), "300", "500")?;
     files.put("four", FOUR.as_bytes())?;
     files.put("rows", FOUR_FLIGHTS.as_bytes())?;
-    let rows: [(&[&str], u8, &str); 5] = [
-        (
-            &["answer", "1", "shape", "table", "key0", "new"],
-            9,
-            "differ: provider 1 0",
-        ),
-        (
-            &["answer", "0", "four", "rows", "key0", "new"],
-            9,
-            "differ: shape line 2",
-        ),
-        (
-            &["answer", "0", "none", "table", "key0", "new"],
-            11,
-            "no file none",
-        ),
-        (
-            &["answer", "0", "shape", "rows", "none", "new"],
-            6,
-            "table: 4 rows, not 5",
-        ),
-        (
-            &["answer", "0", "shape", "table", "none", "new"],
-            11,
-            "no file none",
-        ),
-    ];
-    for (words, number, text) in &rows {
+    for (words, number, text) in &BY_PROVIDERS {
         assert!(rt;
             refuses(&rt, rt.alloc(), &mut files, words, *number, text)?,
             "{text}"
@@ -246,55 +268,13 @@ fn what_a_provider_refuses(rt: HostRuntime) -> Result<(), Fail> {
 #[test]
 fn what_a_client_refuses(rt: HostRuntime) -> Result<(), Fail> {
     let alloc = rt.alloc();
-    let mut files = answered(&rt, alloc)?;
+    let mut files = asked(&rt, alloc, "300", "500")?;
     files.put("dearer", DEARER.as_bytes())?;
     let dearer = ["answer", "1", "shape", "dearer", "key1", "dear1"];
-    ran(&rt, alloc, &mut files, &dearer)?;
+    run_steady(&rt, alloc, &dearer, &mut files, &DRAWN)?;
     let again = copied(alloc, &files, "note")?;
     files.put("again", &again)?;
-    let rows: [(&[&str], u8, &str); 10] = [
-        (
-            &[
-                "keys", "none", PRICES, "new", "key0", "key1", "SFO", "JFK", "1", "2",
-            ],
-            11,
-            "no file none",
-        ),
-        (
-            &["combine", "note", "answer0", "again"],
-            8,
-            "frame again: bad magic",
-        ),
-        (
-            &["combine", "note", "again", "none"],
-            8,
-            "frame again: bad magic",
-        ),
-        (
-            &["combine", "key0", "none", "none"],
-            8,
-            "frame key0: bad magic",
-        ),
-        (&["combine", "note", "answer0", "none"], 11, "no file none"),
-        (
-            &["combine", "note", "answer0", "answer0"],
-            22,
-            "same provider 0",
-        ),
-        (
-            &["combine", "note", "answer1", "dear1"],
-            22,
-            "same provider 1",
-        ),
-        (&["combine", "note", "answer0", "dear1"], 9, BOTH_TABLES),
-        (&["combine", "note", "dear1", "answer0"], 9, BOTH_TABLES),
-        (
-            &["combine", "none", "answer0", "answer1"],
-            11,
-            "no file none",
-        ),
-    ];
-    for (words, number, text) in &rows {
+    for (words, number, text) in &BY_CLIENTS {
         assert!(rt;
             refuses(&rt, alloc, &mut files, words, *number, text)?,
             "{text}"
@@ -307,7 +287,7 @@ fn what_a_client_refuses(rt: HostRuntime) -> Result<(), Fail> {
 #[test]
 fn a_note_of_another_session(rt: HostRuntime) -> Result<(), Fail> {
     let alloc = rt.alloc();
-    let mut files = answered(&rt, alloc)?;
+    let mut files = asked(&rt, alloc, "300", "500")?;
     let mut keys = keys_of("300", "500");
     keys[3] = "later";
     keys[4] = "other0";

@@ -22,6 +22,18 @@ pub const FIVE_FLIGHTS: &str =
 pub const PRICES: &str =
     "SELECT COUNT(*), SUM(price), AVG(price) FROM flights WHERE origin = ? AND dest = ? AND price BETWEEN ? AND ?";
 
+/// The words that are drawn.
+pub const DRAWN: [u64; 10] = [1, 2, 3, 4, 5, 6, 7, 8, 9, 10];
+
+/// The words by which the provider Zero answers.
+pub const ANSWER_ZERO: [&str; 6] = ["answer", "0", "shape", "table", "key0", "answer0"];
+
+/// The words by which the provider One answers.
+pub const ANSWER_ONE: [&str; 6] = ["answer", "1", "shape", "table", "key1", "answer1"];
+
+/// The words that end a session.
+pub const COMBINE: [&str; 4] = ["combine", "note", "answer0", "answer1"];
+
 /// What a run left.
 #[derive(Drop)]
 pub struct Left {
@@ -32,11 +44,11 @@ pub struct Left {
     pub next: u64,
 }
 
-/// The numbers of the calls that fail of the random words and of the output, 0 for none.
+/// The number of the call that fails, of the random words and of the output.
 #[derive(Clone, Copy)]
 pub struct Fails {
-    pub draw: u64,
-    pub out: u64,
+    pub draw: Option<u64>,
+    pub out: Option<u64>,
 }
 
 /// The texts as words of a command line.
@@ -89,8 +101,8 @@ pub fn run_failing<T: Threads + Sync>(
     drawn: &[u64],
     fails: Fails,
 ) -> Result<Left, Fail> {
-    let mut draw = MemoryDraw::new(Vec::from_slice(alloc, drawn)?, vec![in alloc; fails.draw]?);
-    let mut out = MemorySink::new(alloc, vec![in alloc; fails.out]?);
+    let mut draw = MemoryDraw::new(Vec::from_slice(alloc, drawn)?, listed(alloc, fails.draw)?);
+    let mut out = MemorySink::new(alloc, listed(alloc, fails.out)?);
     let number = number(rt, alloc, texts, files, &mut draw, &mut out)?;
     Ok(Left {
         number,
@@ -107,13 +119,56 @@ fn after_the_failed(draw: &mut MemoryDraw) -> u64 {
     }
 }
 
-/// Files that hold these bytes under these names.
-pub fn files_of(alloc: Global, contents: &[(&str, &str)]) -> Result<SteadyFiles, AllocError> {
-    let mut files = SteadyFiles::new(alloc);
-    for (name, text) in contents {
-        files.put(name, text.as_bytes())?;
+/// Files in memory whose chosen call fails.
+pub fn failing_files(alloc: Global, fails: Option<u64>) -> Result<MemoryFiles, AllocError> {
+    Ok(MemoryFiles::new(alloc, listed(alloc, fails)?))
+}
+
+/// The number as a list.
+fn listed(alloc: Global, number: Option<u64>) -> Result<Vec<u64>, AllocError> {
+    let mut list = Vec::new(alloc);
+    if let Some(number) = number {
+        list.push(number)?;
     }
+    Ok(list)
+}
+
+/// The files `shape` and `table`.
+pub fn files_of(alloc: Global, shape: &str, table: &[u8]) -> Result<SteadyFiles, AllocError> {
+    let mut files = SteadyFiles::new(alloc);
+    files.put("shape", shape.as_bytes())?;
+    files.put("table", table)?;
     Ok(files)
+}
+
+/// The files after the words `keys` have begun a session, and both providers have answered.
+pub fn answered<T: Threads + Sync>(
+    rt: &T,
+    alloc: Global,
+    shape: &str,
+    table: &[u8],
+    keys: &[&str],
+) -> Result<SteadyFiles, Fail> {
+    let mut files = files_of(alloc, shape, table)?;
+    run_steady(rt, alloc, keys, &mut files, &DRAWN)?;
+    run_steady(rt, alloc, &ANSWER_ZERO, &mut files, &DRAWN)?;
+    run_steady(rt, alloc, &ANSWER_ONE, &mut files, &DRAWN)?;
+    Ok(files)
+}
+
+/// The words are refused with this status and this line, draw nothing, and leave no file `new`.
+pub fn refuses<T: Threads + Sync>(
+    rt: &T,
+    alloc: Global,
+    files: &mut SteadyFiles,
+    words: &[&str],
+    number: u8,
+    text: &str,
+) -> Result<bool, Fail> {
+    let left = run_steady(rt, alloc, words, files, &DRAWN)?;
+    let line = format!(in alloc; "splinter: {text}\n")?;
+    let written = files.get("new").is_some();
+    Ok(left.number == number && left.printed == line && left.next == DRAWN[0] && !written)
 }
 
 /// The bytes of a file.

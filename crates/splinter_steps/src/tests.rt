@@ -7,32 +7,41 @@ use std::test::Fail;
 
 const SHAPE: &[u8] = b"table t\nrows 3\na TEXT(3)\nb UINT(8)\n";
 
-// A query and its one parameter, and what is said of them.
+/// What comes of a query and its parameters.
+#[derive(Clone, Copy, Debug, PartialEq, Eq)]
+enum Judged {
+    Asked,
+    Query,
+    NotBuilt,
+    Param,
+    Other,
+}
+
+// A query and its one parameter, and what comes of them.
 #[test]
 fn queries_are_judged_in_order(rt: HostRuntime) -> Result<(), Fail> {
     let shape = read_shape(rt.alloc(), SHAPE)?;
-    let cases: [(&str, &str, &str); 5] = [
-        ("SELECT COUNT(*) FROM t WHERE a = ?", "SFO", "asked"),
-        ("SELECT COUNT(*) FROM t", "SFOX", "query"),
-        ("SELECT MAX(b) FROM t WHERE a = ?", "SFOX", "not built"),
-        ("SELECT SUM(b) FROM t WHERE a = ?", "SFOX", "parameter"),
+    for (query, parameter, judged) in [
+        ("SELECT COUNT(*) FROM t WHERE a = ?", "SFO", Judged::Asked),
+        ("SELECT COUNT(*) FROM t", "SFOX", Judged::Query),
+        ("SELECT MAX(b) FROM t WHERE a = ?", "SFOX", Judged::NotBuilt),
+        ("SELECT SUM(b) FROM t WHERE a = ?", "SFOX", Judged::Param),
         (
             "SELECT COUNT(*), AVG(b) FROM t WHERE b BETWEEN ? AND ?",
             "3",
-            "parameter",
+            Judged::Param,
         ),
-    ];
-    for (query, parameter, said) in cases {
+    ] {
         let mut words = Vec::new(rt.alloc());
         words.push(String::from_str(rt.alloc(), parameter)?)?;
         let found = match judge(rt.alloc(), &shape, query, &words) {
-            Ok(_) => "asked",
-            Err(InputStop::Refused(Refusal::Query(_))) => "query",
-            Err(InputStop::Refused(Refusal::NotBuilt(Part::Plan))) => "not built",
-            Err(InputStop::Refused(Refusal::Param(_))) => "parameter",
-            Err(_) => "another refusal",
+            Ok(_) => Judged::Asked,
+            Err(InputStop::Refused(Refusal::Query(_))) => Judged::Query,
+            Err(InputStop::Refused(Refusal::NotBuilt(Part::Plan))) => Judged::NotBuilt,
+            Err(InputStop::Refused(Refusal::Param(_))) => Judged::Param,
+            Err(_) => Judged::Other,
         };
-        assert_eq!(rt; found, said, "{query}");
+        assert_eq!(rt; found, judged, "{query}");
     }
     Ok(())
 }
