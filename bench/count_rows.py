@@ -11,7 +11,7 @@ import tempfile
 from measure import measure
 
 TOP = os.path.dirname(os.path.dirname(os.path.abspath(__file__)))
-PROGRAM = os.path.join(TOP, "crates/splinter_cli/out/splinter_cli")
+PROGRAM = os.path.join(TOP, "crates/splinter/out/splinter")
 QUERY = "SELECT COUNT(*) FROM t WHERE a = ?"
 ROWS, BITS, PROVIDERS, TABLE_REFUSED = 100_000, 16, 2, 6
 

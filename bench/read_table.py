@@ -12,7 +12,7 @@ from measure import measure
 from table import write
 
 TOP = os.path.dirname(os.path.dirname(os.path.abspath(__file__)))
-PROGRAM = os.path.join(TOP, "crates/splinter_cli/out/splinter_cli")
+PROGRAM = os.path.join(TOP, "crates/splinter/out/splinter")
 QUERY = "SELECT COUNT(*) FROM t WHERE a = ?"
 ROWS, TABLE_REFUSED = 262_144, 6
 

@@ -10,7 +10,7 @@ import tempfile
 from measure import measure
 
 TOP = os.path.dirname(os.path.dirname(os.path.abspath(__file__)))
-PROGRAM = os.path.join(TOP, "crates/splinter_cli/out/splinter_cli")
+PROGRAM = os.path.join(TOP, "crates/splinter/out/splinter")
 ROWS, TABLE_REFUSED = 262_144, 6
 # The query, its parameters, and the levels that are walked for a row, the leaf too, over all keys.
 QUERIES = [

@@ -1,5 +1,5 @@
 //! Runs of the program over the forms in memory.
-use crate::run::run;
+use crate::top::run;
 use share_eval::OpenGate;
 use spl_outside::{
     Draw, Files, MemoryDraw, MemoryFiles, MemorySink, Sink, SteadyDraw, SteadyFiles, SteadySink,

@@ -13,7 +13,7 @@ use Rattle.splinter_cli.proofs.Cut.{cut_stopped, drawn_stopped, last_done, last_
 use Rattle.splinter_cli.proofs.Done.{ready_done, ready_stopped, session_ends}
 use Rattle.splinter_cli.proofs.Refused.{both_come, each_comes, early_where, sums_come}
 use Rattle.splinter_cli.proofs.Written.{says_refusal, some_done, some_stopped}
-use Rattle.splinter_cli.proofs.run.run.Goals as goal
+use Rattle.splinter_cli.proofs.top.run.Goals as goal
 
 pub returns-in-Err-clause-query : goal.returns-in-Err-clause-query
 returns-in-Err-clause-query g c =

@@ -1,20 +1,8 @@
-//! Private SQL over two providers: the command line.
+//! Private SQL over two providers: the program `splinter`.
 #![tactic(auto)]
 
-#[cfg(test)]
-mod failing_tests;
-mod host;
-#[cfg(test)]
-mod refusal_tests;
-mod run;
-#[cfg(test)]
-mod session_tests;
-#[cfg(test)]
-mod testing;
-#[cfg(test)]
-mod trace_tests;
-
 use share_eval::OpenGate;
+use splinter_cli::{HostDraw, HostFiles, HostSink, run};
 use std::alloc::Global;
 use std::process::ExitCode;
 use std::rt::Env;
@@ -33,10 +21,10 @@ fn words_of<R: Env + Alloc<A = Global>>(rt: &R) -> io::Result<Vec<String>> {
 fn main(rt: HostRuntime) -> ExitCode {
     let alloc = rt.alloc();
     let words = words_of(&rt).unwrap_or(Vec::new(alloc));
-    let mut files = host::HostFiles::new(&rt);
-    let mut draw = host::HostDraw::new(&rt);
-    let mut out = host::HostSink::new(&rt);
-    let status = run::run(
+    let mut files = HostFiles::new(&rt);
+    let mut draw = HostDraw::new(&rt);
+    let mut out = HostSink::new(&rt);
+    let status = run(
         &rt, alloc, &words, &mut files, &mut draw, &mut out, &OpenGate,
     );
     ExitCode::from(splinter_status::number_of(&status))
