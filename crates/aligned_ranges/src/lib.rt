@@ -7,8 +7,6 @@ mod covers;
 pub mod laws;
 mod lifting;
 mod ranges;
-#[cfg(test)]
-mod tests;
 
 pub use covers::cover;
 pub use lifting::lift;

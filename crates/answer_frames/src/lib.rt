@@ -4,8 +4,6 @@
 mod answer;
 pub mod laws;
 mod reading;
-#[cfg(test)]
-mod tests;
 mod writing;
 
 pub use answer::AnswerFrame;

@@ -6,11 +6,7 @@ mod entry;
 pub mod laws;
 mod merge;
 mod row;
-#[cfg(test)]
-mod row_tests;
 mod spec;
-#[cfg(test)]
-mod tests;
 mod top;
 mod widths;
 

@@ -3,7 +3,5 @@
 
 pub mod laws;
 mod runs;
-#[cfg(test)]
-mod tests;
 
 pub use runs::merge_runs;

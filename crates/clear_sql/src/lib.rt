@@ -2,8 +2,6 @@
 #![tactic(auto)]
 
 mod answer;
-#[cfg(test)]
-mod cell_tests;
 mod clear_answers;
 mod columns;
 pub mod laws;
@@ -12,8 +10,6 @@ mod printing;
 mod queries;
 mod reading;
 mod sums;
-#[cfg(test)]
-mod tests;
 mod texts;
 
 pub use answer::{Answer, Group, Groups, Outcome, Outcomes, TopRow, TopRows};

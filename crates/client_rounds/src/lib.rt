@@ -4,16 +4,12 @@
 
 mod draws;
 mod faults;
-#[cfg(test)]
-mod finish_tests;
 mod finishing;
 mod judging;
 pub mod laws;
 mod roots;
 mod rounds;
 mod starting;
-#[cfg(test)]
-mod tests;
 
 pub use draws::draw_roots;
 pub use faults::{AskFault, Source};

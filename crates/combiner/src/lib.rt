@@ -4,8 +4,6 @@
 mod combining;
 mod finals;
 pub mod laws;
-#[cfg(test)]
-mod tests;
 
 pub use combining::{CombineFault, combine_words};
 pub use finals::{FinalFault, final_answer, last_words};

@@ -6,8 +6,6 @@ mod command;
 mod fault;
 mod forms;
 mod numbers;
-#[cfg(test)]
-mod tests;
 mod values;
 
 pub use command::{AnswerWords, CombineWords, Command, KeysWords, TraceWords};

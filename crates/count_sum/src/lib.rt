@@ -4,8 +4,6 @@
 
 mod kept;
 mod rows;
-#[cfg(test)]
-mod tests;
 
 pub use kept::{is_kept, kept_count};
 pub use rows::row_cells;

@@ -5,8 +5,6 @@ mod fault;
 pub mod laws;
 mod reading;
 mod table_reader;
-#[cfg(test)]
-mod tests;
 mod writing;
 
 pub use fault::TableFault;

@@ -8,11 +8,7 @@ mod keys;
 pub mod laws;
 mod make;
 mod share;
-#[cfg(test)]
-mod slot_tests;
 mod slots;
-#[cfg(test)]
-mod tests;
 
 pub use eval::ThresholdEval;
 pub use interval::{Interval, interval_secrets};

@@ -5,8 +5,6 @@
 mod codes;
 pub mod laws;
 mod queries;
-#[cfg(test)]
-mod tests;
 
 pub use codes::{judge_codes, judge_words};
 pub use queries::{judge_query, judge_query_bytes};

@@ -12,8 +12,6 @@ pub mod laws;
 mod note;
 mod note_reading;
 mod note_writing;
-#[cfg(test)]
-mod tests;
 mod texts;
 
 pub use frame::{KeyFrame, frame_digest};

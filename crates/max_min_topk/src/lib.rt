@@ -3,7 +3,5 @@
 #![tactic(auto)]
 
 mod cells;
-#[cfg(test)]
-mod tests;
 
 pub use cells::key_cells;

@@ -7,8 +7,6 @@ mod keys;
 pub mod laws;
 mod make;
 mod share;
-#[cfg(test)]
-mod tests;
 
 pub use eval::PointEval;
 pub use keys::{Corrections, PointKey};

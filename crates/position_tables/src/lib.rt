@@ -3,7 +3,5 @@
 #![tactic(auto)]
 
 mod positions;
-#[cfg(test)]
-mod tests;
 
 pub use positions::position_cells;

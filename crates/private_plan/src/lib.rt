@@ -14,6 +14,3 @@ pub use layout::plan;
 pub use lengths::frame_length;
 pub use plans::{KeySpec, Plan, PlanKind, Specs};
 pub use secrets::{SecretFault, Secrets, round_secrets};
-
-#[cfg(test)]
-mod tests;

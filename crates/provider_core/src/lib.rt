@@ -9,8 +9,6 @@ mod fault;
 pub mod laws;
 mod layout;
 mod shapes;
-#[cfg(test)]
-mod tests;
 mod words;
 
 pub use answering::answer;

@@ -17,6 +17,3 @@ pub use printer::print_query;
 pub use query::Query;
 pub use query_grammar::{Atom, Atoms, Branches, Item, Items, Literal, Public, Publics};
 pub use reader::read_query;
-
-#[cfg(test)]
-mod tests;

@@ -21,6 +21,3 @@ pub use query_parser::{
     read_query,
 };
 pub use uses::{Role, Use};
-
-#[cfg(test)]
-mod tests;

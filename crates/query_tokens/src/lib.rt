@@ -16,6 +16,3 @@ pub use laws::{
 };
 pub use lexer::{Lexeme, tokens};
 pub use printer::{Last, Printer};
-
-#[cfg(test)]
-mod tests;

@@ -6,8 +6,6 @@ mod chacha;
 pub mod laws;
 mod level;
 mod nodes;
-#[cfg(test)]
-mod tests;
 mod toy;
 mod words;
 

@@ -4,8 +4,6 @@
 
 mod fold;
 mod gate;
-#[cfg(test)]
-mod tests;
 
 pub use fold::{Lane, fold_shares};
 pub use gate::{Gate, OpenGate};

@@ -16,8 +16,6 @@ mod file_log;
 mod memory_draw;
 mod memory_files;
 mod memory_sink;
-#[cfg(test)]
-mod tests;
 
 pub use memory_draw::{MemoryDraw, SteadyDraw};
 pub use memory_files::{MemoryFiles, SteadyFiles};

@@ -13,8 +13,6 @@ mod names;
 mod shape_printer;
 mod shape_reader;
 mod tables;
-#[cfg(test)]
-mod tests;
 mod values;
 
 pub use cells::{print_value, value_of};

@@ -11,8 +11,6 @@ mod lists;
 mod provider;
 mod secret;
 mod share;
-#[cfg(test)]
-mod tests;
 
 pub use arithmetic::{below, minus, plus, signed, times};
 pub use differ::Differ;

@@ -7,8 +7,6 @@ mod frame_texts;
 mod report;
 mod status;
 mod stops;
-#[cfg(test)]
-mod tests;
 mod texts;
 
 pub use report::{print, refuse};

@@ -4,8 +4,6 @@
 
 mod judging;
 mod reading;
-#[cfg(test)]
-mod tests;
 mod writing;
 
 pub use judging::{Asked, judge};

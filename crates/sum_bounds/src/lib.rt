@@ -6,9 +6,6 @@ ghost use Rattle.sum_bounds.specs.Sums.{number_of, column_sum, IsBounded, IsFirs
 
 use spl_values::{Table, Value};
 
-#[cfg(test)]
-mod tests;
-
 /// The first row at which the sum of a column is 2^64 or more, counted from 0, and the sum of the
 /// rows up to it.
 #[derive(Clone, Copy, Debug, PartialEq, Eq)]

@@ -1,0 +1,17 @@
+//! Tests of queries, plans and clear answers.
+#![tactic(auto)]
+
+#[cfg(test)]
+mod cell_texts;
+#[cfg(test)]
+mod clear_answers;
+#[cfg(test)]
+mod judging;
+#[cfg(test)]
+mod parsing;
+#[cfg(test)]
+mod plans;
+#[cfg(test)]
+mod reading;
+#[cfg(test)]
+mod tokens;

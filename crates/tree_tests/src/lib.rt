@@ -1,0 +1,27 @@
+//! Tests of trees, folds and cells.
+#![tactic(auto)]
+
+#[cfg(test)]
+mod cell_rows;
+#[cfg(test)]
+mod expansion;
+#[cfg(test)]
+mod folding;
+#[cfg(test)]
+mod interval_slots;
+#[cfg(test)]
+mod key_entries;
+#[cfg(test)]
+mod merging;
+#[cfg(test)]
+mod points;
+#[cfg(test)]
+mod position_entries;
+#[cfg(test)]
+mod ranges;
+#[cfg(test)]
+mod row_entries;
+#[cfg(test)]
+mod runs;
+#[cfg(test)]
+mod thresholds;
