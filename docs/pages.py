@@ -200,7 +200,23 @@ def pages():
     return {"DEFINITIONS.md": HEAD + "\n".join(core()) + "\n".join(index()) + "\n", "MAP.md": mapped}
 
 
+def lost_names():
+    """The definitions that docs/MAP.md names as a status's cause and that no file of their crate has."""
+    for names, files in re.findall(r"^\| \d+ \|.*\| ([^|]+) \| ([^|]+) \|$", read("docs", "MAP.md"), re.M):
+        modules = re.findall(r"`specs/(\w+)\.antt`", files)
+        for part in names.split(";"):
+            named = re.findall(r"`([^`]+)`", part)
+            for name in named[:-1] if " over " not in part else named[:1]:
+                crate = named[-1] if " over " not in part else named[1]
+                has = [it for module in modules if os.path.exists(os.path.join(TOP, "crates", crate, "specs", module + ".antt")) for it, _, _ in definitions(crate, module)]
+                if name not in has:
+                    yield f"{name} of {crate}"
+
+
 def main(words):
+    lost = [*lost_names()]
+    if lost:
+        sys.exit(f"docs/MAP.md names what isn't there: {', '.join(lost)}")
     stale = [name for name, text in pages().items() if text != read("docs", name)]
     if words == ["--check"]:
         for name in stale:
