@@ -3,7 +3,7 @@ use Rattle.spl_values.specs.Kinds.{bits_of}
 use Rattle.spl_values.specs.Shapes.{ColumnParts}
 use Rattle.spl_values.specs.Tables.{column_bits}
 use Rattle.spl_values.proofs.RowLaws.{column_bits-at, key_bits-cons, key_bits-nil}
-use Rattle.csv_tables.proofs.tests.first_key.Goals as goal
+use Rattle.data_tests.proofs.tables.first_key.Goals as goal
 
 pub join_key-requires-clause-bits : goal.join_key-requires-clause-bits
 join_key-requires-clause-bits c =

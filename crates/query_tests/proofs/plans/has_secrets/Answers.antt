@@ -1,6 +1,6 @@
 use Rattle.std.proofs.Common.{subst}
 use Rattle.query_reader.specs.Accepted.{IsCheckedFor}
-use Rattle.private_plan.proofs.tests.has_secrets.Goals as goal
+use Rattle.query_tests.proofs.plans.has_secrets.Goals as goal
 
 pub plan-requires : goal.plan-requires
 plan-requires c = subst (λ s. IsCheckedFor c.in_ok-checked.checked s.schema) c.shape.view_is c.in_ok-checked.ensures

@@ -1,7 +1,7 @@
 use Rattle.std.proofs.Common.{ap, ◌∙◌, subst}
 use Rattle.spl_values.specs.Shapes.{ShapeParts}
 use Rattle.query_reader.specs.Accepted.{IsCheckedFor}
-use Rattle.position_tables.proofs.tests.entries.Goals as goal
+use Rattle.tree_tests.proofs.position_entries.entries.Goals as goal
 
 pub position_cells-requires : goal.position_cells-requires
 position_cells-requires c =
