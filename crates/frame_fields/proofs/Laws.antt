@@ -1,6 +1,6 @@
 -- What is read is spelled so, and what is spelled so is read: one law for each kind of field, and one for a field followed by others.
 use Rattle.std.proofs.Common.{◌≡◌, ℕ, zero, suc, ◌+◌, ◌*◌, ◌^◌, ◌<◌, ◌≤◌, Bool, true, false, cond, ltb, leb, eqb, ◌&&◌, List, [], ◌∷◌, ◌++◌, length, take, drop, Option, Some, None, Result, Ok, Err, refl, sym, ap, subst, ◌∙◌, append_assoc, arith, inl, inr}
-use Rattle.std.specs.Prelude.{IfOk}
+use Rattle.std.specs.Prelude.{◌↔◌, IfOk}
 use Rattle.std.specs.Int.{Width, w8, w16, w32, w64, byte_len, byte_at, bytes_high_first, from_be_bytes, to_be_bytes}
 use Rattle.std.specs.List.{flat_map, AllByRecursion, position}
 use Rattle.std.specs.Str.{bytes_eq}
@@ -475,6 +475,13 @@ frame_only fields fits spell law bytes x f small e =
     let s : Spans p (spell x) q = record { same = refl; at = omega arith; there = e ∙ ap (λ (t : List ℕ). spell x ++ t) (sym back); within = long } in
     let d = digest_only q long (back ∙ ap sha256 (sym front)) in
     rw (le-ltb 4194304 (length bytes) small, law.only p x q s tt f, d) refl
+
+-- Bytes are read as a value exactly where they are its spelling.
+pub frame_law : {A : Type 0} (fields : Spot → At A) (fits : A → Type 0) (spell : A → List ℕ) → IsField fields Any fits spell
+    → ((x : A) → fits x → length (sealed (spell x)) ≤ 4194304)
+    → (bytes : List ℕ) (x : A) → IsBytes bytes → (frame_at fields bytes ≡ Ok x) ↔ (fits x × (bytes ≡ sealed (spell x)))
+frame_law fields fits spell law small bytes x are =
+    (frame_found fields fits spell law bytes x are, λ f. frame_only fields fits spell law bytes x f.0 (omega (arith, small x f.0, ap length f.1)) f.1)
 
 -- What a reader of whole frames answers: a value that fits, and its spelling.
 pub reader_found : {A : Type 0} (fields : Spot → At A) (fits : A → Type 0) (spell : A → List ℕ) → IsField fields Any fits spell
