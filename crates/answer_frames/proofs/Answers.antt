@@ -1,17 +1,17 @@
 -- The fields of an answer frame are spelled so.
-use Rattle.std.proofs.Common.{◌≡◌, ℕ, ◌+◌, ◌*◌, ◌^◌, ◌<◌, List, [], ◌∷◌, ◌++◌, length, Result, Ok, Err, refl, sym, ap, ◌∙◌, arith}
-use Rattle.std.specs.Prelude.{codes, IfOk}
+use Rattle.std.proofs.Common.{◌≡◌, ℕ, ◌^◌, ◌<◌, List, [], ◌∷◌, ◌++◌, length, Result, Ok, Err, refl, sym, ap, ◌∙◌, arith}
+use Rattle.std.specs.Prelude.{◌↔◌, codes, IfOk}
 use Rattle.std.specs.List.{flat_map}
 use Rattle.std.specs.Int.{w8, w32, w64, w128, to_be_bytes}
 use Rattle.std.proofs.lemmas.List.{append-nil, append_assoc, length-append}
 use Rattle.frame_fields.specs.Typed.{IsBytes}
 use Rattle.spl_words.specs.declared.fault.FrameFault.{FrameFault}
 use Rattle.frame_fields.specs.Reading.{Gives, frame_at, take_at, number_at, magic_at, version_at, within_at, provider_at, many_at}
-use Rattle.frame_fields.proofs.Laws.{IsField, Any, and_then, done_field, restate_field, chunk_field, number_field, magic_field, version_field, within_field, provider_field, many_field, length_of_parts, length-sealed, reader_found, reader_only, no_prefix, wide8, wide32, wide64}
+use Rattle.frame_fields.proofs.Laws.{IsField, Any, and_then, done_field, restate_field, chunk_field, number_field, magic_field, version_field, within_field, provider_field, many_field, length_of_parts, length-sealed, frame_law, frame_only, reader_found, reader_only, no_prefix, wide8, wide32, wide64}
 use Rattle.frame_fields.proofs.Wide.{wide128}
 use Rattle.answer_frames.specs.declared.answer.AnswerFrame.{AnswerFrame}
 use Rattle.answer_frames.specs.Reading.{fields_at}
-use Rattle.answer_frames.specs.Spelling.{body, spelling, Allowed, Typed, AnswerOf}
+use Rattle.answer_frames.specs.Spelling.{answer_length, body, spelling, Allowed, Typed, AnswerOf}
 
 pub fields_field : IsField fields_at Any (λ f. Allowed f × Typed f) body
 unfolding fields_at
@@ -33,11 +33,25 @@ fields_field =
     (((((((((tt, refl), refl), refl), refl), refl), refl), refl), wk.0), refl)
     (λ y e. λ i. record { session = e.0.0.0.0.1 i; round = e.0.0.0.0.0.0.1 i; provider = e.0.0.0.0.0.1 i; key = e.0.0.0.1 i; table = e.0.0.1 i; words = e.1 i })))))))))))
 
-pub length-spelling : (f : AnswerFrame) → Typed f → length (spelling f) ≡ 123 + 8 * length f.words
+pub length-spelling : (f : AnswerFrame) → Typed f → length (spelling f) ≡ answer_length f
 length-spelling f t =
     let words = length_of_parts (to_be_bytes w64) 8 (λ w. refl) f.words in
     let count = to_be_bytes w32 (length f.words) in
     omega (arith, length-sealed (body f), length-append (f.key ++ (f.table ++ count)) (flat_map (to_be_bytes w64) f.words), length-append f.key (f.table ++ count), length-append f.table count, words, t.key.0, t.table.0)
+
+pub answer_law : (bytes : List ℕ) (f : AnswerFrame) → IsBytes bytes → (frame_at fields_at bytes ≡ Ok f) ↔ AnswerOf bytes f
+answer_law bytes f are =
+    let law = frame_law fields_at (λ f. Allowed f × Typed f) body fields_field (λ f t. omega (arith, length-spelling f t.1, t.0.count)) bytes f are in
+    (λ e. let h = law.0 e in record { allowed = h.0.0; typed = h.0.1; spelled = h.1 }, λ of. law.1 ((of.allowed, of.typed), of.spelled))
+
+-- from the bytes that spell a frame it is read
+pub answer_read : (bytes : List ℕ) (f : AnswerFrame) → AnswerOf bytes f → frame_at fields_at bytes ≡ Ok f
+answer_read bytes f of =
+    frame_only fields_at (λ f. Allowed f × Typed f) body fields_field bytes f (of.allowed, of.typed)
+    (omega (arith, length-spelling f of.typed, of.allowed.count, ap length of.spelled)) of.spelled
+
+pub length-answer : (bytes : List ℕ) (f : AnswerFrame) → AnswerOf bytes f → length bytes ≡ answer_length f
+length-answer bytes f of = ap length of.spelled ∙ length-spelling f of.typed
 
 pub is_found : (bytes : List ℕ) (r : Result AnswerFrame FrameFault) → IsBytes bytes → Gives (λ x. x) r (frame_at fields_at bytes) → IfOk r (λ f. AnswerOf bytes f)
 is_found bytes (Ok f) are given =

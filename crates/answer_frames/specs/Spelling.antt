@@ -1,5 +1,5 @@
 -- The one spelling of an answer frame.
-use Rattle.std.specs.Prelude.{◌≡◌, ℕ, ◌<◌, ◌≤◌, ◌^◌, List, ◌∷◌, ◌++◌, length, codes}
+use Rattle.std.specs.Prelude.{◌≡◌, ℕ, ◌+◌, ◌*◌, ◌<◌, ◌≤◌, ◌^◌, List, ◌∷◌, ◌++◌, length, codes}
 use Rattle.std.specs.List.{flat_map, AllByRecursion}
 use Rattle.std.specs.Int.{w8, w32, w64, w128, to_be_bytes}
 use Rattle.frame_fields.specs.Typed.{IsBytes}
@@ -17,6 +17,10 @@ body f = head f ++ flat_map (to_be_bytes w64) f.words
 -- the fields and their digest
 abbrev pub spelling : AnswerFrame → List ℕ
 spelling f = sealed (body f)
+
+-- the number of its bytes
+abbrev pub answer_length : AnswerFrame → ℕ
+answer_length f = 123 + 8 * length f.words
 
 -- the values that a frame may have
 pub record Allowed (f : AnswerFrame) : Type 0 where

@@ -1,6 +1,8 @@
 //! Writing an answer frame.
-ghost use Rattle.std.specs.Prelude.{◌≡◌, ◌++◌, ◌+◌, ◌*◌, ◌≤◌, length, take, IfOk};
-ghost use Rattle.answer_frames.specs.Spelling.{Allowed, Typed, AnswerOf, body, spelling};
+ghost use Rattle.std.specs.Prelude.{◌≡◌, ◌++◌, ◌+◌, ◌*◌, ◌≤◌, length, take, IfOk, Ok};
+ghost use Rattle.frame_fields.specs.Reading.{frame_at};
+ghost use Rattle.answer_frames.specs.Reading.{fields_at};
+ghost use Rattle.answer_frames.specs.Spelling.{Allowed, Typed, AnswerOf, answer_length, body, spelling};
 
 use crate::answer::AnswerFrame;
 use frame_fields::{digest_of, provider_byte_of, put, see_bytes, see_number, see_words};
@@ -44,7 +46,7 @@ fn see_types(frame: &AnswerFrame)
 /// Leaves in `out` the bytes that `write_answer` gives. `out` has 123 bytes, and 8 for each word. Takes no memory.
 pub fn fill_answer(frame: &AnswerFrame, out: &mut [u8])
     requires allowed { Allowed frame.now }
-    requires len { length out.old ≡ 123 + 8 * length frame.now.words }
+    requires len { length out.old ≡ answer_length frame.now }
     ensures spelled { out.new ≡ spelling frame.now }
     ensures len { length out.new ≡ length out.old }
 {
@@ -53,10 +55,13 @@ pub fn fill_answer(frame: &AnswerFrame, out: &mut [u8])
     put(out, at, &sum);
 }
 
-/// The frame's bytes, in their one spelling. The round is 1 or 2, and there are 1 to 65,536 words.
+/// The frame's bytes, in their one spelling, which reads as the frame. The round is 1 or 2, and there are 1 to 65,536
+/// words.
 pub fn write_answer(alloc: Global, frame: &AnswerFrame) -> Result<Vec<u8>, AllocError>
     requires { Allowed frame.now }
-    ensures { IfOk result (λ v. AnswerOf v.items frame.now) }
+    ensures spelled { IfOk result (λ v. AnswerOf v.items frame.now) }
+    ensures read { IfOk result (λ v. frame_at fields_at v.items ≡ Ok frame.now) }
+    ensures len { IfOk result (λ v. length v.items ≡ answer_length frame.now) }
 {
     see_types(frame);
     let len = 123 + 8 * frame.words.as_slice().len();
