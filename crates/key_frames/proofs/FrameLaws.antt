@@ -1,6 +1,6 @@
 -- Whole key frames are spelled so.
 use Rattle.std.proofs.Common.{◌≡◌, ℕ, ◌^◌, ◌≤◌, List, [], ◌∷◌, ◌++◌, length, Result, Ok, Err, refl, sym, ap, ◌∙◌, arith}
-use Rattle.std.specs.Prelude.{codes, IfOk}
+use Rattle.std.specs.Prelude.{◌↔◌, codes, IfOk}
 use Rattle.std.specs.List.{flat_map, AllByRecursion}
 use Rattle.std.specs.Int.{w8, w16, w128, to_be_bytes}
 use Rattle.std.proofs.lemmas.List.{append-nil, length-append}
@@ -9,16 +9,16 @@ use Rattle.spl_values.specs.Shapes.{IsShape}
 use Rattle.spl_values.specs.ShapeTexts.{shape_text}
 use Rattle.frame_fields.specs.Typed.{IsBytes}
 use Rattle.frame_fields.specs.Reading.{Gives, frame_at, sealed, number_at, magic_at, version_at, within_at, provider_at, many_at, text_at, decoded_at}
-use Rattle.frame_fields.proofs.Laws.{IsField, Any, and_then, done_field, restate_field, number_field, magic_field, version_field, within_field, provider_field, text_field, decoded_field, many_field, length_of_parts_le, length-sealed, frame_only, reader_found, reader_only, no_prefix, wide8, wide16}
+use Rattle.frame_fields.proofs.Laws.{IsField, Any, and_then, done_field, restate_field, number_field, magic_field, version_field, within_field, provider_field, text_field, decoded_field, many_field, length_of_parts_le, length-sealed, frame_law, frame_only, reader_found, reader_only, no_prefix, wide8, wide16}
 use Rattle.frame_fields.proofs.Wide.{wide128}
 use Rattle.key_frames.specs.declared.frame.KeyFrame.{KeyFrame}
 use Rattle.key_frames.specs.declared.keys.Key.{Key}
 use Rattle.key_frames.specs.Keys.{key, KeyAllowed, KeyTyped}
 use Rattle.key_frames.specs.Texts.{is_bad, canonical_shape}
 use Rattle.key_frames.specs.KeyReading.{key_at}
-use Rattle.key_frames.specs.Frames.{frame_body, FrameAllowed, FrameTyped, KeyFrameOf}
+use Rattle.key_frames.specs.Frames.{frame_body, frame_length, FrameAllowed, FrameTyped, KeyFrameOf}
 use Rattle.key_frames.specs.FrameReading.{frame_fields_at}
-use Rattle.key_frames.proofs.KeyLaws.{KeyFits, key_field, key_length}
+use Rattle.key_frames.proofs.KeyLaws.{KeyFits, key_field, length_keys, key_short}
 use Rattle.key_frames.proofs.ShapeTextLaws.{shape_spelled, shape_decoded, shape_length, shape_fits}
 
 -- keys that fit are allowed and typed, and the other way round
@@ -65,17 +65,31 @@ fields_field =
     (((((((((((tt, refl), refl), refl), refl), refl), qk.0), refl), hk.0), refl), kk.0), refl)
     (λ y e. λ i. record { session = e.0.0.0.0.0.0.1 i; round = e.0.0.0.0.0.0.0.0.1 i; provider = e.0.0.0.0.0.0.0.1 i; query = e.0.0.0.0.1 i; shape = e.0.0.1 i; keys = e.1 i })))))))))))))
 
-length-frame : (f : KeyFrame) → FrameFits f → length (sealed (frame_body f)) ≤ 4194304
+length_sealed_frame : (f : KeyFrame) → length (sealed (frame_body f)) ≡ frame_length f
 unfolding frame_body
-length-frame f t =
-    let keys = length_of_parts_le KeyFits key 4250 key_length f.keys (both_of f.keys t.0.keys t.1.keys) in
+length_sealed_frame f =
     let rest = to_be_bytes w16 (length f.keys) ++ flat_map key f.keys in
     let shape = to_be_bytes w16 (length (shape_text f.shape)) ++ (shape_text f.shape ++ rest) in
-    let text = shape_length f.shape t.1.shape in
-    omega (arith, length-sealed (frame_body f), length-append f.query shape, length-append (shape_text f.shape) rest, keys, t.0.query_length.1, text.1, t.0.count.1)
+    omega (arith, length-sealed (frame_body f), length-append f.query shape, length-append (shape_text f.shape) rest, length_keys f.keys)
 
+frame_short : (f : KeyFrame) → FrameFits f → length (sealed (frame_body f)) ≤ 4194304
+frame_short f t =
+    let keys = length_of_parts_le KeyFits key 4250 key_short f.keys (both_of f.keys t.0.keys t.1.keys) in
+    let text = shape_length f.shape t.1.shape in
+    omega (arith, length_sealed_frame f, length_keys f.keys, keys, t.0.query_length.1, text.1, t.0.count.1)
+
+-- the bytes that spell a frame are so many
+pub frame_sized : (bytes : List ℕ) (f : KeyFrame) → KeyFrameOf bytes f → length bytes ≡ frame_length f
+frame_sized bytes f of = ap length of.spelled ∙ length_sealed_frame f
+
+pub frame_is_read : (bytes : List ℕ) (f : KeyFrame) → IsBytes bytes → (frame_at frame_fields_at bytes ≡ Ok f) ↔ KeyFrameOf bytes f
+frame_is_read bytes f are =
+    let law = frame_law frame_fields_at FrameFits frame_body fields_field frame_short bytes f are in
+    (λ e. let h = law.0 e in record { allowed = h.0.0; typed = h.0.1; spelled = h.1 }, λ of. law.1 ((of.allowed, of.typed), of.spelled))
+
+-- from the bytes that spell a frame it is read
 pub frame_read : (bytes : List ℕ) (f : KeyFrame) → KeyFrameOf bytes f → frame_at frame_fields_at bytes ≡ Ok f
-frame_read bytes f of = frame_only frame_fields_at FrameFits frame_body fields_field bytes f (of.allowed, of.typed) (omega (arith, length-frame f (of.allowed, of.typed), ap length of.spelled)) of.spelled
+frame_read bytes f of = frame_only frame_fields_at FrameFits frame_body fields_field bytes f (of.allowed, of.typed) (omega (arith, frame_short f (of.allowed, of.typed), ap length of.spelled)) of.spelled
 
 pub is_found : (bytes : List ℕ) (r : Result KeyFrame FrameFault) → IsBytes bytes → Gives (λ x. x) r (frame_at frame_fields_at bytes) → IfOk r (λ f. KeyFrameOf bytes f)
 is_found bytes (Ok f) are given =
@@ -84,7 +98,7 @@ is_found bytes (Ok f) are given =
 is_found bytes (Err e) are given = tt
 
 pub is_only : (bytes : List ℕ) (r : Result KeyFrame FrameFault) → Gives (λ x. x) r (frame_at frame_fields_at bytes) → (f : KeyFrame) → KeyFrameOf bytes f → Gives (λ x. x) r (Ok f)
-is_only bytes r given f of = reader_only frame_fields_at FrameFits frame_body fields_field bytes r given f (of.allowed, of.typed) (length-frame f (of.allowed, of.typed)) of.spelled
+is_only bytes r given f of = reader_only frame_fields_at FrameFits frame_body fields_field bytes r given f (of.allowed, of.typed) (frame_short f (of.allowed, of.typed)) of.spelled
 
 pub none_is_prefix : (b1 b2 more : List ℕ) (f g : KeyFrame) → KeyFrameOf b1 f → KeyFrameOf b2 g → b1 ++ more ≡ b2 → (f ≡ g) × (more ≡ [])
 none_is_prefix b1 b2 more f g a b e =

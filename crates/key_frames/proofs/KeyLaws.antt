@@ -1,8 +1,9 @@
 -- Levels and keys are spelled so.
-use Rattle.std.proofs.Common.{◌≡◌, ℕ, zero, suc, ◌+◌, ◌*◌, ◌^◌, ◌<◌, ◌≤◌, Bool, true, false, length, Ok, refl, sym, ap, subst, ◌∙◌, arith}
-use Rattle.std.specs.List.{flat_map}
+use Rattle.std.proofs.Common.{◌≡◌, ℕ, zero, suc, ◌+◌, ◌*◌, ◌^◌, ◌<◌, ◌≤◌, Bool, true, false, List, length, Ok, refl, sym, ap, subst, ◌∙◌, arith}
+use Rattle.std.specs.List.{flat_map, sum_by}
 use Rattle.std.specs.Int.{w8, w64, w128, to_be_bytes}
 use Rattle.std.proofs.lemmas.List.{append-nil, length-append}
+use Rattle.std.proofs.lemmas.List.Concat.{length-flat_map}
 use Rattle.spl_words.specs.Cursor.{Spot}
 use Rattle.frame_fields.specs.Reading.{number_at, within_at, many_at}
 use Rattle.frame_fields.proofs.Laws.{Spans, IsField, Any, and_then, done_field, restate_field, number_field, within_field, many_field, length_of_parts, wide8, wide64, bind_ok, ok_is}
@@ -13,7 +14,7 @@ use Rattle.point_keys.specs.declared.keys.PointKey.{PointKey}
 use Rattle.interval_keys.specs.declared.keys.ThresholdKey.{ThresholdKey}
 use Rattle.key_frames.specs.declared.keys.Key.{Key}
 use Rattle.key_frames.specs.declared.keys.Key.TheVariants.{Point, Threshold}
-use Rattle.key_frames.specs.Keys.{bits_byte, correction, threshold_level, point_key, threshold_key, kind_byte, key_fields, key, CorrectionTyped, LevelTyped, KeyAllowed, PointTyped, ThresholdTyped, KeyTyped}
+use Rattle.key_frames.specs.Keys.{bits_byte, correction, threshold_level, point_key, threshold_key, kind_byte, key_fields, key, key_length, CorrectionTyped, LevelTyped, KeyAllowed, PointTyped, ThresholdTyped, KeyTyped}
 use Rattle.key_frames.specs.KeyReading.{left_bit, right_bit, correction_at, level_at, point_at, threshold_at, of_kind, key_at}
 
 -- a point key that a frame may hold
@@ -176,7 +177,14 @@ threshold_length k =
     let levels = length_of_parts threshold_level 33 level_length k.levels in
     omega (arith, length-append (flat_map threshold_level k.levels) (to_be_bytes w64 k.last), levels)
 
-pub key_length : (k : Key) → KeyFits k → length (key k) ≤ 4250
+pub length_key : (k : Key) → length (key k) ≡ key_length k
 unfolding key
-key_length (Point k) f = omega (arith, point_length k, f.0.count)
-key_length (Threshold k) f = omega (arith, threshold_length k, f.0.count)
+length_key (Point k) = omega (arith, point_length k)
+length_key (Threshold k) = omega (arith, threshold_length k)
+
+pub length_keys : (ks : List Key) → length (flat_map key ks) ≡ sum_by key_length ks
+length_keys ks = length-flat_map key ks ∙ λ i. sum_by (λ k. length_key k i) ks
+
+pub key_short : (k : Key) → KeyFits k → length (key k) ≤ 4250
+key_short (Point k) f = omega (arith, length_key (Point k), f.0.count)
+key_short (Threshold k) f = omega (arith, length_key (Threshold k), f.0.count)

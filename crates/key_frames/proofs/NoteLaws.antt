@@ -1,6 +1,6 @@
 -- Whole notes are spelled so.
 use Rattle.std.proofs.Common.{◌≡◌, ℕ, zero, suc, ◌^◌, ◌<◌, ◌≤◌, true, List, [], ◌∷◌, ◌++◌, length, replicate, Result, Ok, Err, refl, sym, ap, subst, ◌∙◌, arith}
-use Rattle.std.specs.Prelude.{codes, IfOk}
+use Rattle.std.specs.Prelude.{◌↔◌, codes, IfOk}
 use Rattle.std.specs.List.{flat_map}
 use Rattle.std.specs.Int.{w8, w16, w128, to_be_bytes}
 use Rattle.std.proofs.lemmas.List.{append-nil, length-append}
@@ -11,11 +11,11 @@ use Rattle.spl_values.specs.Shapes.{IsShape}
 use Rattle.spl_values.specs.ShapeTexts.{shape_text}
 use Rattle.frame_fields.specs.Typed.{IsBytes}
 use Rattle.frame_fields.specs.Reading.{Gives, frame_at, sealed, take_at, number_at, magic_at, version_at, within_at, many_at, text_at, decoded_at}
-use Rattle.frame_fields.proofs.Laws.{IsField, Any, and_then, done_field, restate_field, test_field, chunk_field, number_field, magic_field, version_field, within_field, text_field, decoded_field, many_field, length_of_parts, length-sealed, reader_found, reader_only, no_prefix, wide8, wide16}
+use Rattle.frame_fields.proofs.Laws.{IsField, Any, and_then, done_field, restate_field, test_field, chunk_field, number_field, magic_field, version_field, within_field, text_field, decoded_field, many_field, length_of_parts, length-sealed, frame_law, frame_only, reader_found, reader_only, no_prefix, wide8, wide16}
 use Rattle.frame_fields.proofs.Wide.{wide128}
 use Rattle.key_frames.specs.declared.note.Note.{Note}
 use Rattle.key_frames.specs.Texts.{is_bad, canonical_shape}
-use Rattle.key_frames.specs.Notes.{note_body, NoteAllowed, NoteTyped, NoteOf}
+use Rattle.key_frames.specs.Notes.{note_body, note_length, NoteAllowed, NoteTyped, NoteOf}
 use Rattle.key_frames.specs.NoteReading.{is_table, table_at, note_fields_at}
 use Rattle.key_frames.proofs.ShapeTextLaws.{shape_spelled, shape_decoded, shape_length, shape_fits}
 
@@ -76,15 +76,32 @@ note_field =
     (((((((((((((tt, refl), refl), refl), refl), qk.0), refl), hk.0), refl), psk.0), refl), refl), refl), refl)
     (λ y e. λ i. record { session = e.0.0.0.0.0.0.0.0.0.1 i; round = e.0.0.0.0.0.0.0.0.0.0.1 i; query = e.0.0.0.0.0.0.0.1 i; shape = e.0.0.0.0.0.1 i; params = e.0.0.0.1 i; key_zero = e.0.0.1 i; key_one = e.0.1 i; table = e.1 i }))))))))))))))))
 
-pub length-note : (f : Note) → NoteFits f → length (sealed (note_body f)) ≤ 4194304
+length_sealed_note : (f : Note) → NoteTyped f → length (sealed (note_body f)) ≡ note_length f
 unfolding note_body
-length-note f t =
+length_sealed_note f t =
     let params = length_of_parts (to_be_bytes w128) 16 (λ n. refl) f.params in
     let digests = f.key_zero ++ (f.key_one ++ f.table) in
     let rest = to_be_bytes w8 (length f.params) ++ (flat_map (to_be_bytes w128) f.params ++ digests) in
     let shape = to_be_bytes w16 (length (shape_text f.shape)) ++ (shape_text f.shape ++ rest) in
+    omega (arith, length-sealed (note_body f), length-append f.query shape, length-append (shape_text f.shape) rest, length-append (flat_map (to_be_bytes w128) f.params) digests, length-append f.key_zero (f.key_one ++ f.table), length-append f.key_one f.table, params, t.key_zero.0, t.key_one.0, t.table.0)
+
+pub length-note : (f : Note) → NoteFits f → length (sealed (note_body f)) ≤ 4194304
+length-note f t =
     let text = shape_length f.shape t.1.shape in
-    omega (arith, length-sealed (note_body f), length-append f.query shape, length-append (shape_text f.shape) rest, length-append (flat_map (to_be_bytes w128) f.params) digests, length-append f.key_zero (f.key_one ++ f.table), length-append f.key_one f.table, params, t.0.query_length.1, text.1, t.0.count.1, t.1.key_zero.0, t.1.key_one.0, t.1.table.0)
+    omega (arith, length_sealed_note f t.1, t.0.query_length.1, text.1, t.0.count.1)
+
+-- the bytes that spell a note are so many
+pub note_sized : (bytes : List ℕ) (n : Note) → NoteOf bytes n → length bytes ≡ note_length n
+note_sized bytes n of = ap length of.spelled ∙ length_sealed_note n of.typed
+
+pub note_is_read : (bytes : List ℕ) (n : Note) → IsBytes bytes → (frame_at note_fields_at bytes ≡ Ok n) ↔ NoteOf bytes n
+note_is_read bytes n are =
+    let law = frame_law note_fields_at NoteFits note_body note_field length-note bytes n are in
+    (λ e. let h = law.0 e in record { allowed = h.0.0; typed = h.0.1; spelled = h.1 }, λ of. law.1 ((of.allowed, of.typed), of.spelled))
+
+-- from the bytes that spell a note it is read
+pub note_read : (bytes : List ℕ) (n : Note) → NoteOf bytes n → frame_at note_fields_at bytes ≡ Ok n
+note_read bytes n of = frame_only note_fields_at NoteFits note_body note_field bytes n (of.allowed, of.typed) (omega (arith, length-note n (of.allowed, of.typed), ap length of.spelled)) of.spelled
 
 pub is_found : (bytes : List ℕ) (r : Result Note FrameFault) → IsBytes bytes → Gives (λ x. x) r (frame_at note_fields_at bytes) → IfOk r (λ f. NoteOf bytes f)
 is_found bytes (Ok f) are given =

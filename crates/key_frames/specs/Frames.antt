@@ -1,13 +1,13 @@
 -- The one spelling of a key frame.
-use Rattle.std.specs.Prelude.{◌≡◌, ℕ, ◌<◌, ◌≤◌, ◌^◌, List, ◌∷◌, ◌++◌, length, codes, None}
-use Rattle.std.specs.List.{flat_map, AllByRecursion, position}
+use Rattle.std.specs.Prelude.{◌≡◌, ℕ, ◌+◌, ◌<◌, ◌≤◌, ◌^◌, List, ◌∷◌, ◌++◌, length, codes, None}
+use Rattle.std.specs.List.{flat_map, sum_by, AllByRecursion, position}
 use Rattle.std.specs.Int.{w8, w16, w128, to_be_bytes}
 use Rattle.spl_values.specs.Shapes.{IsShape}
 use Rattle.spl_values.specs.ShapeTexts.{shape_text}
 use Rattle.frame_fields.specs.Typed.{IsBytes}
 use Rattle.frame_fields.specs.Reading.{provider_byte, sealed}
 use Rattle.key_frames.specs.declared.frame.KeyFrame.{KeyFrame}
-use Rattle.key_frames.specs.Keys.{key, KeyAllowed, KeyTyped}
+use Rattle.key_frames.specs.Keys.{key, key_length, KeyAllowed, KeyTyped}
 use Rattle.key_frames.specs.Texts.{is_bad}
 
 -- the fields before the digest
@@ -17,6 +17,10 @@ frame_body f =
     ++ (to_be_bytes w16 (length f.query) ++ (f.query
     ++ (to_be_bytes w16 (length (shape_text f.shape)) ++ (shape_text f.shape
     ++ (to_be_bytes w16 (length f.keys) ++ flat_map key f.keys)))))))))
+
+-- the number of its bytes
+abbrev pub frame_length : KeyFrame → ℕ
+frame_length f = 61 + length f.query + length (shape_text f.shape) + sum_by key_length f.keys
 
 -- the values that a frame may have
 pub record FrameAllowed (f : KeyFrame) : Type 0 where

@@ -1,5 +1,5 @@
 -- The one spelling of a key, and the keys that a frame may hold.
-use Rattle.std.specs.Prelude.{ℕ, ◌<◌, ◌≤◌, ◌^◌, Bool, true, false, List, ◌++◌, length}
+use Rattle.std.specs.Prelude.{ℕ, ◌+◌, ◌*◌, ◌<◌, ◌≤◌, ◌^◌, Bool, true, false, List, ◌++◌, length}
 use Rattle.std.specs.List.{flat_map, AllByRecursion}
 use Rattle.std.specs.Int.{w8, w64, w128, to_be_bytes}
 use Rattle.seed_expansion.specs.declared.nodes.Correction.{Correction}
@@ -50,6 +50,11 @@ key k = to_be_bytes w8 (kind_byte k) ++ key_fields k
 abbrev pub depth : Key → ℕ
 depth (Point k) = length k.levels
 depth (Threshold k) = length k.levels
+
+-- the number of a key's bytes: a threshold key has two words more on each level
+abbrev pub key_length : Key → ℕ
+key_length (Point k) = 26 + 17 * length k.levels
+key_length (Threshold k) = 26 + 33 * length k.levels
 
 -- the keys that a frame may hold: those of 1 to 128 levels
 pub record KeyAllowed (k : Key) : Type 0 where

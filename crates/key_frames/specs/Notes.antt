@@ -1,5 +1,5 @@
 -- The one spelling of a note.
-use Rattle.std.specs.Prelude.{◌≡◌, ℕ, ◌<◌, ◌≤◌, ◌^◌, List, ◌∷◌, ◌++◌, length, replicate, codes, None}
+use Rattle.std.specs.Prelude.{◌≡◌, ℕ, ◌+◌, ◌*◌, ◌<◌, ◌≤◌, ◌^◌, List, ◌∷◌, ◌++◌, length, replicate, codes, None}
 use Rattle.std.specs.List.{flat_map, AllByRecursion, position}
 use Rattle.std.specs.Int.{w8, w16, w128, to_be_bytes}
 use Rattle.spl_values.specs.Shapes.{IsShape}
@@ -17,6 +17,10 @@ note_body n =
     ++ (to_be_bytes w16 (length (shape_text n.shape)) ++ (shape_text n.shape
     ++ (to_be_bytes w8 (length n.params) ++ (flat_map (to_be_bytes w128) n.params
     ++ (n.key_zero ++ (n.key_one ++ n.table)))))))))))
+
+-- the number of its bytes
+abbrev pub note_length : Note → ℕ
+note_length n = 155 + length n.query + length (shape_text n.shape) + 16 * length n.params
 
 -- the values that a note may have; in round 1 no table is known yet, and its digest is 32 zeros
 pub record NoteAllowed (n : Note) : Type 0 where

@@ -1,7 +1,9 @@
 //! Writing a key frame.
-ghost use Rattle.std.specs.Prelude.{◌≡◌, OnOk, IfOk, codes};
+ghost use Rattle.std.specs.Prelude.{◌≡◌, length, Ok, OnOk, IfOk, codes};
 ghost use Rattle.frame_fields.specs.Pieces.{Wrote};
-ghost use Rattle.key_frames.specs.Frames.{FrameAllowed, FrameTyped, KeyFrameOf, frame_body};
+ghost use Rattle.frame_fields.specs.Reading.{frame_at};
+ghost use Rattle.key_frames.specs.FrameReading.{frame_fields_at};
+ghost use Rattle.key_frames.specs.Frames.{FrameAllowed, FrameTyped, KeyFrameOf, frame_body, frame_length};
 
 use crate::frame::KeyFrame;
 use crate::key_writing::put_keys;
@@ -47,11 +49,14 @@ fn put_fields(alloc: Global, out: &mut Vec<u8>, frame: &KeyFrame) -> Result<(), 
     Ok(())
 }
 
-/// The frame's bytes, in their one spelling. The round is 1 or 2, the query's text has 1 to 4,096 printable ASCII
+/// The frame's bytes, in their one spelling, which reads as the frame. The round is 1 or 2, the query's text has 1 to 4,096 printable ASCII
 /// bytes, and there are 1 to 512 keys, each of 1 to 128 levels.
+#[tactic(auto, using(crate::proofs::FrameLaws::frame_read, crate::proofs::FrameLaws::frame_sized))]
 pub fn write_key_frame(alloc: Global, frame: &KeyFrame) -> Result<Vec<u8>, AllocError>
     requires { FrameAllowed frame.now }
-    ensures { IfOk result (λ v. KeyFrameOf v.items frame.now) }
+    ensures spelled { IfOk result (λ v. KeyFrameOf v.items frame.now) }
+    ensures read { IfOk result (λ v. frame_at frame_fields_at v.items ≡ Ok frame.now) }
+    ensures len { IfOk result (λ v. length v.items ≡ frame_length frame.now) }
 {
     let mut out = Vec::new(alloc);
     put_fields(alloc, &mut out, frame)?;

@@ -1,6 +1,6 @@
-//! Reading keys: the levels from the root down, a key, and so many keys.
+//! Reading keys: the levels from the root down, a key, and so many keys. The reader of one level takes no memory.
 ghost use Rattle.std.specs.Prelude.{◌≡◌};
-ghost use Rattle.frame_fields.specs.Reading.{Reads, many_at};
+ghost use Rattle.frame_fields.specs.Reading.{Reads, ReadsExactly, many_at};
 ghost use Rattle.key_frames.specs.KeyReading.{correction_at, level_at, point_at, threshold_at, key_at, left_bit, right_bit};
 
 use crate::keys::{Key, Keys};
@@ -14,7 +14,7 @@ use std::alloc::Global;
 /// A level of a point key: its seed, and a byte with a bit for each side.
 #[tactic(auto, unfolding(crate::specs::KeyReading::correction_at))]
 fn correction(fields: &mut Fields) -> Result<Correction, FrameFault>
-    ensures { Reads (λ c. c) result fields.new (correction_at fields.old) }
+    ensures { ReadsExactly (λ c. c) result fields.new (correction_at fields.old) }
 {
     let seed = be128(fields)?;
     let bits = within(fields, 0, 3)?;
@@ -40,7 +40,7 @@ fn corrections(alloc: Global, fields: &mut Fields, depth: u8) -> Result<Correcti
 /// A level of a threshold key: its correction, and a word for each side.
 #[tactic(auto, unfolding(crate::specs::KeyReading::level_at))]
 fn level(fields: &mut Fields) -> Result<ThresholdLevel, FrameFault>
-    ensures { Reads (λ c. c) result fields.new (level_at fields.old) }
+    ensures { ReadsExactly (λ c. c) result fields.new (level_at fields.old) }
 {
     let correction = correction(fields)?;
     let word_l = be64(fields)?;

@@ -1,9 +1,13 @@
 //! Laws of key frames and of notes. Each function does nothing: its clauses are the laws.
-ghost use Rattle.std.specs.Prelude.{◌≡◌, ◌++◌, ℕ, List, []};
+ghost use Rattle.std.specs.Prelude.{◌≡◌, ◌↔◌, ◌++◌, ℕ, List, [], length, Ok};
+ghost use Rattle.frame_fields.specs.Typed.{IsBytes};
+ghost use Rattle.frame_fields.specs.Reading.{frame_at};
 ghost use Rattle.key_frames.specs.declared.frame.KeyFrame.{KeyFrame as Frame};
 ghost use Rattle.key_frames.specs.declared.note.Note.{Note as Noted};
-ghost use Rattle.key_frames.specs.Frames.{KeyFrameOf};
-ghost use Rattle.key_frames.specs.Notes.{NoteOf};
+ghost use Rattle.key_frames.specs.FrameReading.{frame_fields_at};
+ghost use Rattle.key_frames.specs.Frames.{KeyFrameOf, frame_length};
+ghost use Rattle.key_frames.specs.NoteReading.{note_fields_at};
+ghost use Rattle.key_frames.specs.Notes.{NoteOf, note_length};
 
 /// A key frame has one spelling, and no frame's spelling is a proper prefix of another's.
 pub fn key_frames_have_one_spelling()
@@ -15,4 +19,17 @@ pub fn key_frames_have_one_spelling()
 pub fn notes_have_one_spelling()
     ensures one { (b1 b2 : List ℕ) (n : Noted) → NoteOf b1 n → NoteOf b2 n → b1 ≡ b2 }
     ensures prefix { (b1 b2 more : List ℕ) (n o : Noted) → NoteOf b1 n → NoteOf b2 o → b1 ++ more ≡ b2 → (n ≡ o) × (more ≡ []) }
+{}
+
+/// Bytes are read as a key frame, and as a note, exactly where they spell it.
+pub fn frames_are_read_where_spelled()
+    ensures frame { (bytes : List ℕ) (f : Frame) → IsBytes bytes → (frame_at frame_fields_at bytes ≡ Ok f) ↔ KeyFrameOf bytes f }
+    ensures note { (bytes : List ℕ) (n : Noted) → IsBytes bytes → (frame_at note_fields_at bytes ≡ Ok n) ↔ NoteOf bytes n }
+{}
+
+/// A key frame has 61 bytes, those of its two texts and of its keys; a note has 155, those of its two texts and 16 for
+/// each parameter.
+pub fn frames_have_their_length()
+    ensures frame { (bytes : List ℕ) (f : Frame) → KeyFrameOf bytes f → length bytes ≡ frame_length f }
+    ensures note { (bytes : List ℕ) (n : Noted) → NoteOf bytes n → length bytes ≡ note_length n }
 {}

@@ -1,7 +1,7 @@
 //! Reading a note.
 ghost use Rattle.std.specs.Prelude.{◌≡◌, IfOk, Ok};
 ghost use Rattle.std.specs.Int.{w128};
-ghost use Rattle.frame_fields.specs.Reading.{Reads, Gives, many_at, number_at, frame_at};
+ghost use Rattle.frame_fields.specs.Reading.{Reads, ReadsExactly, Gives, many_at, number_at, frame_at};
 ghost use Rattle.key_frames.specs.declared.note.Note.{Note as Noted};
 ghost use Rattle.key_frames.specs.NoteReading.{table_at, note_fields_at};
 ghost use Rattle.key_frames.specs.Notes.{NoteOf};
@@ -27,7 +27,7 @@ fn params(alloc: Global, fields: &mut Fields, count: u8) -> Result<Numbers, Fram
 /// The digest of the table. In round 1 no table is known yet, and it is only zeros.
 #[tactic(auto, unfolding(crate::specs::NoteReading::table_at))]
 fn table(fields: &mut Fields, round: u8) -> Result<[u8; 32], FrameFault>
-    ensures { Reads (λ t. t) result fields.new (table_at round fields.old) }
+    ensures { ReadsExactly (λ t. t) result fields.new (table_at round fields.old) }
 {
     let from = fields.offset();
     let digest = take32(fields)?;

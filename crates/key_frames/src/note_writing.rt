@@ -1,9 +1,11 @@
 //! Writing a note.
-ghost use Rattle.std.specs.Prelude.{◌≡◌, ◌<◌, ◌^◌, OnOk, IfOk, codes};
+ghost use Rattle.std.specs.Prelude.{◌≡◌, ◌<◌, ◌^◌, length, Ok, OnOk, IfOk, codes};
 ghost use Rattle.std.specs.List.{flat_map, AllByRecursion};
 ghost use Rattle.std.specs.Int.{w128, to_be_bytes};
 ghost use Rattle.frame_fields.specs.Pieces.{Wrote};
-ghost use Rattle.key_frames.specs.Notes.{NoteAllowed, NoteTyped, NoteOf, note_body};
+ghost use Rattle.frame_fields.specs.Reading.{frame_at};
+ghost use Rattle.key_frames.specs.NoteReading.{note_fields_at};
+ghost use Rattle.key_frames.specs.Notes.{NoteAllowed, NoteTyped, NoteOf, note_body, note_length};
 
 use crate::note::Note;
 use crate::texts::see_shape;
@@ -73,11 +75,14 @@ fn put_fields(alloc: Global, out: &mut Vec<u8>, note: &Note) -> Result<(), Alloc
     Ok(())
 }
 
-/// The note's bytes, in their one spelling. The round is 1 or 2, the query's text has 1 to 4,096 printable ASCII
-/// bytes, there are 1 to 255 parameters, and in round 1 the table's digest is only zeros.
+/// The note's bytes, in their one spelling, which reads as the note. The round is 1 or 2, the query's text has 1 to
+/// 4,096 printable ASCII bytes, there are 1 to 255 parameters, and in round 1 the table's digest is only zeros.
+#[tactic(auto, using(crate::proofs::NoteLaws::note_read, crate::proofs::NoteLaws::note_sized))]
 pub fn write_note(alloc: Global, note: &Note) -> Result<Vec<u8>, AllocError>
     requires { NoteAllowed note.now }
-    ensures { IfOk result (λ v. NoteOf v.items note.now) }
+    ensures spelled { IfOk result (λ v. NoteOf v.items note.now) }
+    ensures read { IfOk result (λ v. frame_at note_fields_at v.items ≡ Ok note.now) }
+    ensures len { IfOk result (λ v. length v.items ≡ note_length note.now) }
 {
     see_types(note);
     let mut out = Vec::new(alloc);
