@@ -176,7 +176,7 @@ judged-more columns all r q number most cells more values p j e stands good kept
       rows = j.rows ++ values ∷ [];
       fuel = j.fuel - 1;
       text = p.2;
-      stands = record { untrimmed = stands.untrimmed; ready = stands.ready; config = stands.config; state = refl; source = stands.source };
+      stands = record { untrimmed = stands.untrimmed; flexible = stands.flexible; ready = stands.ready; config = stands.config; state = refl; source = stands.source };
       ends = ap ends_at_end stands.state ∙ leaves.ends;
       enough = omega (arith, leaves.shorter j.ends, j.enough);
       judged = judged ∙ ap (λ s. with_rows (j.rows ++ values ∷ []) (rows_of (number + 1) columns (records_from default_config (j.fuel - 1) s p.2))) (sym stands.state);
@@ -226,7 +226,7 @@ judged-start columns text r most p e stands =
       rows = [];
       fuel = length (strip_bom text);
       text = p.2;
-      stands = record { untrimmed = stands.untrimmed; ready = stands.ready; config = stands.config; state = refl; source = stands.source };
+      stands = record { untrimmed = stands.untrimmed; flexible = stands.flexible; ready = stands.ready; config = stands.config; state = refl; source = stands.source };
       ends = ap ends_at_end stands.state ∙ leaves.ends;
       enough = leaves.shorter refl;
       judged = with_rows-none (rows_of 0 columns (records_from default_config (length (strip_bom text)) p.1 p.2)) ∙ ap (λ s. with_rows [] (rows_of 0 columns (records_from default_config (length (strip_bom text)) s p.2))) (sym stands.state);

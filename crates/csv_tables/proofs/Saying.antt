@@ -1,5 +1,5 @@
 -- A text that reads as rows is one that says them.
-use Rattle.std.proofs.Common.{◌≡◌, ℕ, zero, suc, ◌+◌, ◌==◌, Bool, true, false, ◌&&◌, cond, List, [], ◌∷◌, length, drop, Some, Result, Ok, Err, refl, sym, ap, subst, ◌∙◌, arith, slice_get}
+use Rattle.std.proofs.Common.{◌≡◌, ℕ, zero, suc, ◌+◌, ◌==◌, Bool, true, false, ◌&&◌, cond, List, [], ◌∷◌, length, drop, Some, Result, Ok, Err, refl, ap, subst, arith, slice_get}
 use Rattle.std.specs.Cmp.Lexicographic.{pointwise}
 use Rattle.std.specs.List.{AllZip}
 use Rattle.std.specs.Str.{bytes_eq}
@@ -10,8 +10,7 @@ use Rattle.spl_values.specs.Shapes.{ColumnParts, ShapeParts, names_of}
 use Rattle.spl_values.specs.ShapeTexts.{result_and_then}
 use Rattle.spl_values.specs.declared.values.Value.{Value}
 use Rattle.spl_values.specs.declared.values.ValueFault.{ValueFault}
-use Rattle.csv_tables.specs.Reading.{cell_of, cells_of, row_of, rows_of, rows_under_header, if_count, row_number, table_of, records_of, table_of_text, SaysRow, IsTableText}
-use Rattle.csv_tables.specs.declared.fault.TableFault.{TableFault}
+use Rattle.csv_tables.specs.Reading.{cell_of, cells_of, row_of, rows_of, rows_under_header, if_count, row_number, records_of, table_of_text, SaysRow, IsTableText}
 use Rattle.csv_tables.specs.declared.fault.TableFault.TheVariants as fault
 use Rattle.csv_tables.proofs.RoundTrip.{names_same}
 

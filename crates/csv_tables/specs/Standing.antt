@@ -10,9 +10,10 @@ use Rattle.csv.specs.declared.parser.State.{State}
 use Rattle.csv.specs.declared.reader.Reader.{Reader}
 use Rattle.csv.specs.declared.reader.Trim.TheVariants as trim
 
--- a reader that trims nothing and stands at the start of a record, before these bytes
+-- a reader that trims nothing, takes records of any length and stands at the start of a record, before these bytes
 pub record StandsAt (r : Reader (Bor (List ℕ))) (s : State) (text : List ℕ) : Type 0 where
   pub untrimmed : r.trim ≡ trim.None
+  pub flexible : r.flexible ≡ true
   pub ready : Ready r
   pub config : r.config ≡ default_config
   pub state : r.state ≡ s

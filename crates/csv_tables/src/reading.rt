@@ -15,7 +15,7 @@ ghost use Rattle.csv_tables.specs.Standing.{StandsAt, Took};
 ghost use Rattle.csv_tables.specs.declared.fault.TableFault.TheVariants.{OutOfMemory as no_memory};
 
 use crate::fault::TableFault;
-use csv::{ByteRecord, Reader, ReaderBuilder};
+use csv::{ByteRecord, ErrorKind, Reader, ReaderBuilder};
 use spl_values::{Column, Value, value_of};
 use std::alloc::{AllocError, Global};
 
@@ -30,14 +30,21 @@ fn reader_of(alloc: Global, bytes: &[u8]) -> Reader<&[u8]>
 }
 
 // The next record, and whether there is one. Over bytes in memory want of memory is the one cause
-// of an error.
+// of an error, since a record of any length is taken, and its fields need be no text.
 fn next_record(reader: &mut Reader<&[u8]>, byte_record: &mut ByteRecord) -> Result<bool, AllocError>
+    requires { (s : State) × (text : List ℕ) × StandsAt reader.old s text }
     ensures { IfOk result (λ found. (s : State) (text : List ℕ) → StandsAt reader.old s text
         → Took reader.new found (fields_of byte_record.new) (next_record default_config s [] [] text)) }
 {
     match reader.read_byte_record(byte_record) {
         Ok(found) => Ok(found),
-        Err(_) => Err(AllocError),
+        Err(error) => match error.into_kind() {
+            ErrorKind::OutOfMemory | ErrorKind::Io(_) => Err(AllocError),
+            ErrorKind::UnequalLengths { .. }
+            | ErrorKind::Utf8 { .. }
+            | ErrorKind::Serialize(_)
+            | ErrorKind::Deserialize { .. } => unreachable!("the record is taken"),
+        },
     }
 }
 

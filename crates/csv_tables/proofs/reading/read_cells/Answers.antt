@@ -11,6 +11,14 @@ use Rattle.csv_tables.specs.Reading.{row_of}
 use Rattle.csv_tables.proofs.Records.{took-some, took-none, header-none, header-bad, header-good, judged-start, judged-more, judged-bad, judged-end}
 use Rattle.csv_tables.proofs.reading.read_cells.Goals as goal
 
+pub next_record-requires : goal.next_record-requires
+next_record-requires c = (st.StartRecord, strip_bom c.args.bytes.now, c.reader_of-reader.ensures)
+
+pub next_record-requires-in-loop-number : goal.next_record-requires-in-loop-number
+next_record-requires-in-loop-number c =
+    let j = c.loop-number.invariant.3 in
+    (c.loop-number.reader.state, j.text, j.stands)
+
 pub returns-then-not-branch-clause-err : goal.returns-then-not-branch-clause-err
 returns-then-not-branch-clause-err c _ =
     let took = c.in_ok-next_record.ensures st.StartRecord (strip_bom c.args.bytes.now) c.reader_of-reader.ensures in
