@@ -8,6 +8,7 @@ use Rattle.query_grammar.specs.declared.token.Token.TheVariants.{Symbol as TheSy
 use Rattle.query_grammar.specs.declared.token.Symbol.{Symbol}
 use Rattle.query_grammar.specs.declared.token.Symbol.TheVariants.{Select, From, Where, And, Or, Between, Group, By, Count, TopK, Open, Close, Comma, Star, Equals, Question, Semicolon}
 use Rattle.query_grammar.specs.declared.token.Placed.{Placed}
+use Rattle.query_parser.specs.declared.fault.Unread.{Unread}
 use Rattle.query_parser.specs.declared.fault.ReadFault.{ReadFault}
 use Rattle.query_parser.specs.declared.fault.ReadFault.TheVariants.{NoReading, OutOfMemory}
 use Rattle.query_grammar.specs.Queries.{QueryParts}
@@ -27,15 +28,15 @@ abbrev pub Fails : {Y : Type 0} → ReadFault → Result Y ℕ → Type 0
 Fails (NoReading o) read = read ≡ Err o
 Fails OutOfMemory read = Unit {0}
 
--- What a function returned, and what it left, is what reading gives.
-abbrev pub Gives : {X : Type 0} → Result X ReadFault → Left → Result (X × Left) ℕ → Type 0
+-- What a function that takes no memory returned, and what it left, is what reading gives.
+abbrev pub Gives : {X : Type 0} → Result X Unread → Left → Result (X × Left) ℕ → Type 0
 Gives (Ok x) new read = read ≡ Ok (x, new)
-Gives (Err e) new read = Fails e read
+Gives (Err e) new read = read ≡ Err e.at
 
 -- The same for a function that returns nothing.
-abbrev pub Passes : Result (Unit {0}) ReadFault → Left → Result Left ℕ → Type 0
+abbrev pub Passes : Result (Unit {0}) Unread → Left → Result Left ℕ → Type 0
 Passes (Ok x) new read = read ≡ Ok new
-Passes (Err e) new read = Fails e read
+Passes (Err e) new read = read ≡ Err e.at
 
 -- Two symbols are the same.
 abbrev pub same_symbol : Symbol → Symbol → Bool
@@ -162,7 +163,7 @@ with_item is x = verdict_at (ItemEnd (is ++ x.0 ∷ [])) x.1
 abbrev pub ItemSteps : List Item → Left → Type 0
 ItemSteps is l = verdict_at (Items is) l ≡ (item_at l >>= with_item is)
 
--- The same for a function that returns nothing and changes what is read of a condition.
+-- What a function left that returns nothing and changes what is read of a condition is what reading gives, unless memory ran out.
 abbrev pub Leaves : Result (Unit {0}) ReadFault → Found → Left → Result (Found × Left) ℕ → Type 0
 Leaves (Ok x) w new read = read ≡ Ok (w, new)
 Leaves (Err e) w new read = Fails e read
@@ -289,7 +290,12 @@ stop_of w l = if ends_in w.mode then Ok ((w, ending.Done), l) else Err l.end
 unfoldable pub end_at : Found → Left → Result ((Found × Ending) × Left) ℕ
 end_at w l = if no_more l.tokens then stop_of w l else (take_at l >>= λ p. end_of w p.0.token p.0.at p.1)
 
--- The same for a function that tells how the condition goes on.
+-- What a function that takes no memory told of how the condition goes on, and what it left, is what reading gives.
+abbrev pub Turns : Result Ending Unread → Found → Left → Result ((Found × Ending) × Left) ℕ → Type 0
+Turns (Ok x) w new read = read ≡ Ok ((w, x), new)
+Turns (Err e) w new read = read ≡ Err e.at
+
+-- The same of a function that changes what is read of a condition, unless memory ran out.
 abbrev pub Leads : Result Ending ReadFault → Found → Left → Result ((Found × Ending) × Left) ℕ → Type 0
 Leads (Ok x) w new read = read ≡ Ok ((w, x), new)
 Leads (Err e) w new read = Fails e read

@@ -1,11 +1,11 @@
 //! The condition behind WHERE.
 ghost use Rattle.std.specs.Prelude.{◌≡◌, ◌<◌, ◌≤◌, length, OnOk, IfOk};
-ghost use Rattle.query_grammar.specs.Machine.{TableEnd, Head};
+ghost use Rattle.query_grammar.specs.Machine.{Found, TableEnd, Head};
 ghost use Rattle.query_parser.specs.Reading.{Moves};
-ghost use Rattle.query_parser.specs.Parsing.{Gives, Leaves, equal_at, mark_at, greatest_at, least_at, named_at, inner_at, part_at, behind_at, end_at, turn_at, Leads, ending_state, opening_at};
+ghost use Rattle.query_parser.specs.Parsing.{Gives, Leaves, equal_at, mark_at, greatest_at, least_at, named_at, inner_at, part_at, behind_at, end_at, turn_at, Leads, Turns, ending_state, opening_at};
 
 use crate::cursor::Cursor;
-use crate::fault::ReadFault;
+use crate::fault::{ReadFault, Unread};
 use crate::found::{Conditions, Ending};
 use query_grammar::{Atom, Literal, Public, Symbol, Token};
 use spl_values::Name;
@@ -128,8 +128,8 @@ fn part(alloc: Global, cursor: &mut Cursor, found: &mut Conditions) -> Result<()
 
 /// What stands behind the part in parentheses.
 #[tactic(auto, unfolding(crate::specs::Parsing::behind_at))]
-fn behind(cursor: &mut Cursor, found: &mut Conditions) -> Result<Ending, ReadFault>
-    ensures read { Leads result found.new cursor.new (behind_at found.old cursor.old) }
+fn behind(cursor: &mut Cursor) -> Result<Ending, Unread>
+    ensures read { (found : Found) → Turns result found cursor.new (behind_at found cursor.old) }
     ensures left { length cursor.new.tokens ≤ length cursor.old.tokens }
 {
     if cursor.is_over() {
@@ -140,7 +140,7 @@ fn behind(cursor: &mut Cursor, found: &mut Conditions) -> Result<Ending, ReadFau
         Token::Symbol(Symbol::And) => Ok(Ending::More),
         Token::Symbol(Symbol::Group) => Ok(Ending::Group),
         Token::Symbol(Symbol::Semicolon) => Ok(Ending::Done),
-        _ => Err(ReadFault::NoReading(placed.at)),
+        _ => Err(Unread { at: placed.at }),
     }
 }
 
@@ -169,7 +169,7 @@ fn part_end(alloc: Global, cursor: &mut Cursor, found: &mut Conditions) -> Resul
         },
         Token::Symbol(Symbol::Close) if found.may_close() => {
             found.close(alloc)?;
-            behind(cursor, found)
+            Ok(behind(cursor)?)
         }
         Token::Symbol(Symbol::Group) if found.may_end() => Ok(Ending::Group),
         Token::Symbol(Symbol::Semicolon) if found.may_end() => Ok(Ending::Done),
@@ -189,7 +189,7 @@ fn turn(alloc: Global, cursor: &mut Cursor, found: &mut Conditions) -> Result<En
 
 /// What stands behind the table's name: WHERE means that more follows.
 #[tactic(auto, unfolding(crate::specs::Parsing::opening_at))]
-fn opening(cursor: &mut Cursor) -> Result<Ending, ReadFault>
+fn opening(cursor: &mut Cursor) -> Result<Ending, Unread>
     ensures read { Gives result cursor.new (opening_at cursor.old) }
 {
     if cursor.is_over() {
@@ -200,7 +200,7 @@ fn opening(cursor: &mut Cursor) -> Result<Ending, ReadFault>
         Token::Symbol(Symbol::Where) => Ok(Ending::More),
         Token::Symbol(Symbol::Group) => Ok(Ending::Group),
         Token::Symbol(Symbol::Semicolon) => Ok(Ending::Done),
-        _ => Err(ReadFault::NoReading(placed.at)),
+        _ => Err(Unread { at: placed.at }),
     }
 }
 

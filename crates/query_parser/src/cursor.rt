@@ -1,13 +1,13 @@
 ghost use Rattle.std.specs.Prelude.{◌≡◌, ◌+◌, ◌≤◌, List, [], length, OnOk};
 ghost use Rattle.query_parser.specs.Parsing.{Gives, Passes, is_symbol as symbol_test, take_at, symbol_at, name_at, number_at, no_more, nothing_at};
 
-use crate::fault::ReadFault;
+use crate::fault::Unread;
 use query_grammar::{Placed, Symbol, Token};
 use spl_values::Name;
 use std::collections::VecDeque;
 use std::marker::Model;
 
-/// The tokens that are left of a text, and where it ends.
+/// The tokens that are left of a text, and where it ends. Reading them takes no memory: a fault is always a place.
 #[derive(Drop)]
 pub(crate) struct Cursor {
     tokens: VecDeque<Placed>,
@@ -33,14 +33,14 @@ impl Cursor {
 
     /// The next token; at the end a fault.
     #[tactic(auto, unfolding(crate::specs::Parsing::take_at))]
-    pub(crate) fn take(&mut self) -> Result<Placed, ReadFault>
+    pub(crate) fn take(&mut self) -> Result<Placed, Unread>
         ensures read { Gives result self.new (take_at self.old) }
         ensures one { OnOk result (length self.new.tokens + 1 ≡ length self.old.tokens) }
         ensures left { length self.new.tokens ≤ length self.old.tokens }
     {
         match self.tokens.pop_front() {
             Some(placed) => Ok(placed),
-            None => Err(ReadFault::NoReading(self.end)),
+            None => Err(Unread { at: self.end }),
         }
     }
 
@@ -59,7 +59,7 @@ impl Cursor {
 
     /// Takes nothing, where nothing is left.
     #[tactic(auto, unfolding(crate::specs::Parsing::nothing_at))]
-    pub(crate) fn over(&mut self) -> Result<(), ReadFault>
+    pub(crate) fn over(&mut self) -> Result<(), Unread>
         ensures read { Passes result self.new (nothing_at self.old) }
         ensures left { length self.new.tokens ≤ length self.old.tokens }
     {
@@ -67,12 +67,12 @@ impl Cursor {
             return Ok(());
         }
         let placed = self.take()?;
-        Err(ReadFault::NoReading(placed.at))
+        Err(Unread { at: placed.at })
     }
 
     /// Takes this symbol.
     #[tactic(auto, unfolding(crate::specs::Parsing::symbol_at))]
-    pub(crate) fn expect(&mut self, wanted: Symbol) -> Result<(), ReadFault>
+    pub(crate) fn expect(&mut self, wanted: Symbol) -> Result<(), Unread>
         ensures read { Passes result self.new (symbol_at wanted self.old) }
         ensures left { length self.new.tokens ≤ length self.old.tokens }
     {
@@ -80,33 +80,33 @@ impl Cursor {
         if is_symbol(&placed.token, wanted) {
             Ok(())
         } else {
-            Err(ReadFault::NoReading(placed.at))
+            Err(Unread { at: placed.at })
         }
     }
 
     /// Takes a name.
     #[tactic(auto, unfolding(crate::specs::Parsing::name_at))]
-    pub(crate) fn name(&mut self) -> Result<Name, ReadFault>
+    pub(crate) fn name(&mut self) -> Result<Name, Unread>
         ensures read { Gives result self.new (name_at self.old) }
         ensures left { length self.new.tokens ≤ length self.old.tokens }
     {
         let placed = self.take()?;
         match placed.token {
             Token::Name(name) => Ok(name),
-            _ => Err(ReadFault::NoReading(placed.at)),
+            _ => Err(Unread { at: placed.at }),
         }
     }
 
     /// Takes a number.
     #[tactic(auto, unfolding(crate::specs::Parsing::number_at))]
-    pub(crate) fn number(&mut self) -> Result<u64, ReadFault>
+    pub(crate) fn number(&mut self) -> Result<u64, Unread>
         ensures read { Gives result self.new (number_at self.old) }
         ensures left { length self.new.tokens ≤ length self.old.tokens }
     {
         let placed = self.take()?;
         match placed.token {
             Token::Number(number) => Ok(number),
-            _ => Err(ReadFault::NoReading(placed.at)),
+            _ => Err(Unread { at: placed.at }),
         }
     }
 }

@@ -1,5 +1,5 @@
 ghost use Rattle.std.specs.Prelude.{◌≡◌};
-ghost use Rattle.query_parser.specs.declared.fault.ReadFault.TheVariants.{OutOfMemory};
+ghost use Rattle.query_parser.specs.declared.fault.ReadFault.TheVariants.{NoReading, OutOfMemory};
 ghost use Rattle.query_parser.specs.declared.fault.QueryFault.TheVariants.{OutOfMemory as QueryOutOfMemory};
 
 use spl_values::Name;
@@ -51,11 +51,25 @@ impl<T: Drop> From<AllocFailed<T>> for QueryFault {
     }
 }
 
+/// No query goes on with the token at this offset, or with the text's end there.
+#[derive(Clone, Copy, Debug)]
+pub(crate) struct Unread {
+    pub(crate) at: u64,
+}
+
 /// Why a text isn't read as a query.
 #[derive(Debug, Drop)]
 pub(crate) enum ReadFault {
     NoReading(u64),
     OutOfMemory,
+}
+
+impl From<Unread> for ReadFault {
+    ghost from_gives = { λ unread e. e ≡ NoReading unread.at };
+
+    fn from(unread: Unread) -> ReadFault {
+        ReadFault::NoReading(unread.at)
+    }
 }
 
 impl From<AllocError> for ReadFault {

@@ -5,7 +5,7 @@ ghost use Rattle.query_parser.specs.Reading.{Moves};
 ghost use Rattle.query_parser.specs.Parsing.{Gives, count_at, aggregate_at, top_at, item_at, listed_at};
 
 use crate::cursor::Cursor;
-use crate::fault::ReadFault;
+use crate::fault::{ReadFault, Unread};
 use query_grammar::{Aggregate, Item, Symbol, Token};
 use spl_values::Name;
 use std::alloc::Global;
@@ -24,7 +24,7 @@ fn aggregate_item(aggregate: Aggregate, name: Name) -> Item
 
 /// What stands behind COUNT.
 #[tactic(auto, unfolding(crate::specs::Parsing::count_at))]
-fn count_item(cursor: &mut Cursor) -> Result<Item, ReadFault>
+fn count_item(cursor: &mut Cursor) -> Result<Item, Unread>
     ensures read { Gives result cursor.new (count_at cursor.old) }
     ensures left { length cursor.new.tokens ≤ length cursor.old.tokens }
 {
@@ -36,7 +36,7 @@ fn count_item(cursor: &mut Cursor) -> Result<Item, ReadFault>
 
 /// What stands behind a function of one column.
 #[tactic(auto, unfolding(crate::specs::Parsing::aggregate_at))]
-fn column_item(cursor: &mut Cursor, aggregate: Aggregate) -> Result<Item, ReadFault>
+fn column_item(cursor: &mut Cursor, aggregate: Aggregate) -> Result<Item, Unread>
     ensures read { Gives result cursor.new (aggregate_at aggregate cursor.old) }
     ensures left { length cursor.new.tokens ≤ length cursor.old.tokens }
 {
@@ -48,7 +48,7 @@ fn column_item(cursor: &mut Cursor, aggregate: Aggregate) -> Result<Item, ReadFa
 
 /// What stands behind TOPK.
 #[tactic(auto, unfolding(crate::specs::Parsing::top_at))]
-fn top_item(cursor: &mut Cursor) -> Result<Item, ReadFault>
+fn top_item(cursor: &mut Cursor) -> Result<Item, Unread>
     ensures read { Gives result cursor.new (top_at cursor.old) }
     ensures left { length cursor.new.tokens ≤ length cursor.old.tokens }
 {
@@ -64,7 +64,7 @@ fn top_item(cursor: &mut Cursor) -> Result<Item, ReadFault>
 
 /// An item of the list behind SELECT.
 #[tactic(auto, unfolding(crate::specs::Parsing::item_at))]
-fn item(cursor: &mut Cursor) -> Result<Item, ReadFault>
+fn item(cursor: &mut Cursor) -> Result<Item, Unread>
     ensures read { Gives result cursor.new (item_at cursor.old) }
     ensures left { length cursor.new.tokens ≤ length cursor.old.tokens }
 {
@@ -73,13 +73,13 @@ fn item(cursor: &mut Cursor) -> Result<Item, ReadFault>
         Token::Symbol(Symbol::Count) => count_item(cursor),
         Token::Aggregate(aggregate) => column_item(cursor, aggregate),
         Token::Symbol(Symbol::TopK) => top_item(cursor),
-        _ => Err(ReadFault::NoReading(placed.at)),
+        _ => Err(Unread { at: placed.at }),
     }
 }
 
 /// An item, and whether a comma follows it and not FROM.
 #[tactic(auto, unfolding(crate::specs::Parsing::listed_at))]
-fn listed_item(cursor: &mut Cursor) -> Result<(Item, bool), ReadFault>
+fn listed_item(cursor: &mut Cursor) -> Result<(Item, bool), Unread>
     ensures read { Gives result cursor.new (listed_at cursor.old) }
     ensures left { OnOk result (length cursor.new.tokens < length cursor.old.tokens) }
 {
@@ -88,7 +88,7 @@ fn listed_item(cursor: &mut Cursor) -> Result<(Item, bool), ReadFault>
     match placed.token {
         Token::Symbol(Symbol::Comma) => Ok((item, true)),
         Token::Symbol(Symbol::From) => Ok((item, false)),
-        _ => Err(ReadFault::NoReading(placed.at)),
+        _ => Err(Unread { at: placed.at }),
     }
 }
 

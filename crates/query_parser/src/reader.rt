@@ -10,7 +10,7 @@ ghost use Rattle.query_parser.specs.Parsing.{Gives, Passes, semicolon_at, group_
 
 use crate::condition_reader::condition;
 use crate::cursor::Cursor;
-use crate::fault::{QueryFault, ReadFault};
+use crate::fault::{QueryFault, ReadFault, Unread};
 use crate::found::Ending;
 use crate::item_reader::items;
 use crate::query::Query;
@@ -22,7 +22,7 @@ use std::collections::VecDeque;
 
 /// The semicolon, which may be absent.
 #[tactic(auto, unfolding(crate::specs::Parsing::semicolon_at))]
-fn semicolon(cursor: &mut Cursor) -> Result<(), ReadFault>
+fn semicolon(cursor: &mut Cursor) -> Result<(), Unread>
     ensures read { Passes result cursor.new (semicolon_at cursor.old) }
 {
     if cursor.is_over() {
@@ -31,13 +31,13 @@ fn semicolon(cursor: &mut Cursor) -> Result<(), ReadFault>
     let placed = cursor.take()?;
     match placed.token {
         Token::Symbol(Symbol::Semicolon) => Ok(()),
-        _ => Err(ReadFault::NoReading(placed.at)),
+        _ => Err(Unread { at: placed.at }),
     }
 }
 
 /// The name of a group, and the end.
 #[tactic(auto, unfolding(crate::specs::Parsing::group_at))]
-fn group(cursor: &mut Cursor) -> Result<Name, ReadFault>
+fn group(cursor: &mut Cursor) -> Result<Name, Unread>
     ensures read { Gives result cursor.new (group_at cursor.old) }
 {
     cursor.expect(Symbol::By)?;
@@ -49,7 +49,7 @@ fn group(cursor: &mut Cursor) -> Result<Name, ReadFault>
 
 /// The group and the end, behind all conditions.
 #[tactic(auto, unfolding(crate::specs::Parsing::closing_at))]
-fn closing(cursor: &mut Cursor, ending: Ending) -> Result<Option<Name>, ReadFault>
+fn closing(cursor: &mut Cursor, ending: Ending) -> Result<Option<Name>, Unread>
     ensures read { Gives result cursor.new (closing_at ending cursor.old) }
 {
     match ending {

@@ -1,6 +1,7 @@
 use Rattle.std.proofs.Common.{sym, ◌∙◌, ap}
 use Rattle.std.proofs.lemmas.Result.{err_from_is_err_and}
 use Rattle.query_grammar.specs.Machine.{nothing_found}
+use Rattle.query_parser.specs.declared.fault.ReadFault.TheVariants.{NoReading}
 use Rattle.query_parser.specs.Reading.{verdict_at}
 use Rattle.query_parser.specs.Parsing.{turn_at, opening_at, ending_state}
 use Rattle.query_parser.proofs.Steps.{gave, refused}
@@ -10,7 +11,7 @@ use Rattle.query_parser.proofs.condition_reader.condition.Goals as goal
 pub returns-in_err-ending-clause-moves : goal.returns-in_err-ending-clause-moves
 returns-in_err-ending-clause-moves c h =
     let p = err_from_is_err_and c.from_residual.result c.from_residual.ensures.1 in
-    rw (p.1, p.2) (refused _ (opening_at c.args.cursor.now) (λ x. verdict_at (ending_state h nothing_found x.0) x.1) c.in_err-ending.field-0.0 (opening_law h c.args.cursor.now) c.in_err-ending.ensures.read)
+    rw (p.1, p.2) (refused _ (opening_at c.args.cursor.now) (λ x. verdict_at (ending_state h nothing_found x.0) x.1) (NoReading c.in_err-ending.field-0.0.at) (opening_law h c.args.cursor.now) c.in_err-ending.ensures.read)
 
 pub loop-ending-init : goal.loop-ending-init
 loop-ending-init c h =

@@ -2,6 +2,7 @@ use Rattle.std.proofs.Common.{[], Ok, ◌∙◌, ap}
 use Rattle.std.proofs.lemmas.Result.{err_from_is_err_and}
 use Rattle.query_grammar.specs.declared.token.Symbol.TheVariants.{Select}
 use Rattle.query_grammar.specs.Machine.{Head, Items, TableEnd, query_of}
+use Rattle.query_parser.specs.declared.fault.ReadFault.TheVariants.{NoReading}
 use Rattle.query_parser.specs.Reading.{verdict_at}
 use Rattle.query_parser.specs.Parsing.{symbol_at, name_at, closing_at}
 use Rattle.query_parser.proofs.Drafts.{drafted_as}
@@ -12,7 +13,7 @@ use Rattle.query_parser.proofs.reader.read.Goals as goal
 pub returns-in_err-expect : goal.returns-in_err-expect
 returns-in_err-expect c =
     let p = err_from_is_err_and c.from_residual.result c.from_residual.ensures.1 in
-    rw (p.1, p.2) (refused _ (symbol_at Select c.args.cursor.now) (verdict_at (Items [])) c.in_err-expect.field-0.0 (start_law c.args.cursor.now) c.in_err-expect.ensures.read)
+    rw (p.1, p.2) (refused _ (symbol_at Select c.args.cursor.now) (verdict_at (Items [])) (NoReading c.in_err-expect.field-0.0.at) (start_law c.args.cursor.now) c.in_err-expect.ensures.read)
 
 pub returns-in_err-items : goal.returns-in_err-items
 returns-in_err-items c =
@@ -25,7 +26,7 @@ returns-in_err-table c =
     let e1 = gave _ (symbol_at Select c.args.cursor.now) (verdict_at (Items [])) _ (start_law c.args.cursor.now) c.in_ok-expect.ensures.read in
     let e2 = e1 ∙ c.in_ok-items.ensures in
     let p = err_from_is_err_and c.from_residual-in_err-table.result c.from_residual-in_err-table.ensures.1 in
-    rw (p.1, p.2) (refused _ (name_at c.items.new.cursor) (λ x. verdict_at (TableEnd (record { items = c.in_ok-items.items.items; table = x.0 })) x.1) c.in_err-table.field-0.0 (e2 ∙ table_law c.in_ok-items.items.items c.items.new.cursor) c.in_err-table.ensures.read)
+    rw (p.1, p.2) (refused _ (name_at c.items.new.cursor) (λ x. verdict_at (TableEnd (record { items = c.in_ok-items.items.items; table = x.0 })) x.1) (NoReading c.in_err-table.field-0.0.at) (e2 ∙ table_law c.in_ok-items.items.items c.items.new.cursor) c.in_err-table.ensures.read)
 
 pub returns-in_err-conditions : goal.returns-in_err-conditions
 returns-in_err-conditions c =
@@ -44,7 +45,7 @@ returns-in_err-group c =
     let h : Head = record { items = c.in_ok-items.items.items; table = c.in_ok-table.table } in
     let e4 = e3 ∙ c.in_ok-conditions.ensures.moves h in
     let p = err_from_is_err_and c.from_residual-in_err-group.result c.from_residual-in_err-group.ensures.1 in
-    rw (p.1, p.2) (refused _ (closing_at c.in_ok-conditions.ending c.condition.new.cursor) (λ x. Ok (query_of h c.in_ok-conditions.conditions x.0)) c.in_err-group.field-0.0 (e4 ∙ closing_law h c.in_ok-conditions.conditions c.in_ok-conditions.ending c.condition.new.cursor c.in_ok-conditions.ensures.ends) c.in_err-group.ensures.read)
+    rw (p.1, p.2) (refused _ (closing_at c.in_ok-conditions.ending c.condition.new.cursor) (λ x. Ok (query_of h c.in_ok-conditions.conditions x.0)) (NoReading c.in_err-group.field-0.0.at) (e4 ∙ closing_law h c.in_ok-conditions.conditions c.in_ok-conditions.ending c.condition.new.cursor c.in_ok-conditions.ensures.ends) c.in_err-group.ensures.read)
 
 pub returns : goal.returns
 returns c =
