@@ -6,3 +6,6 @@ pub mod GoodCells
 pub mod MatchingCells
 pub mod TableSums
 pub mod Branches
+pub mod Orders
+pub mod Meaning
+pub mod Unique

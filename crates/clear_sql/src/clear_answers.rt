@@ -8,6 +8,7 @@ ghost use Rattle.query_reader.specs.Params.{AreParamsFor};
 ghost use Rattle.clear_sql.specs.AnswerText.{GroupFits};
 ghost use Rattle.clear_sql.specs.Clear.{SumsFit, clear};
 ghost use Rattle.clear_sql.specs.FirstRows.{first_matching};
+ghost use Rattle.clear_sql.specs.Meaning.{IsGroupOver};
 
 use crate::matching::some_branch_holds;
 use crate::reading::cell_answer;
@@ -128,6 +129,8 @@ pub fn clear_answer(
     requires sums { SumsFit table.now.shape.schema.columns checked.now.spec.items (rows_of table.now) }
     ensures clear { IfOk result (λ answer. answer.groups ≡ clear table.now.shape.schema.columns checked.now.spec (matching_rows checked.now params.now table.now)) }
     ensures printable { IfOk result (λ answer. All (GroupFits table.now.shape.schema.columns checked.now.spec) answer.groups) }
+    // Each outcome is what its item means over the rows of its group.
+    ensures meaning { IfOk result (λ answer. All (IsGroupOver table.now.shape.schema.columns checked.now.spec (matching_rows checked.now params.now table.now)) answer.groups) }
 {
     let _ = table.shape();
     answer_over(alloc, checked, params, table)

@@ -3,6 +3,7 @@ ghost use Rattle.std.specs.Prelude.{◌≡◌, ℕ, All, Bool, List, length};
 ghost use Rattle.std.specs.List.{filter};
 ghost use Rattle.spl_values.specs.Shapes.{ColumnParts};
 ghost use Rattle.spl_values.specs.Tables.{TableParts, IsTable};
+ghost use Rattle.cell_merge.specs.declared.spec.CellItem.{CellItem};
 ghost use Rattle.cell_merge.specs.declared.spec.CellSpec.{CellSpec};
 ghost use Rattle.cell_merge.specs.Rows.{Row};
 ghost use Rattle.cell_merge.specs.Cells.{blocks, cell, cell_width};
@@ -10,8 +11,10 @@ ghost use Rattle.cell_merge.specs.TableRows.{SpecFits, adds_in, rows_of};
 ghost use Rattle.query_reader.specs.declared.checked.Checked.{Checked as TheChecked};
 ghost use Rattle.query_reader.specs.Accepted.{IsCheckedFor};
 ghost use Rattle.query_reader.specs.Matching.{matching_rows};
-ghost use Rattle.clear_sql.specs.Clear.{SumsFit, clear};
+ghost use Rattle.clear_sql.specs.declared.answer.Outcome.{Outcome};
+ghost use Rattle.clear_sql.specs.Clear.{SumsFit, clear, clear_item};
 ghost use Rattle.clear_sql.specs.AnswerText.{GroupFits};
+ghost use Rattle.clear_sql.specs.Meaning.{IsGroupOver, IsOutcome, RowsRise};
 ghost use Rattle.clear_sql.specs.CellAnswers.{BlocksRead, answer_of};
 
 /// Where the sums over all rows are within their bounds, the cell of those rows that pass a test stands for the clear
@@ -40,4 +43,14 @@ pub fn matching_cells_stand_for_clear_answers()
         → BlocksRead table.shape.schema.columns checked.spec.items (blocks checked.spec.group checked.spec.labels) (cell (adds_in table.shape.schema.columns) checked.spec (matching_rows checked params table)) }
     ensures clear { (checked : TheChecked) (params : List ℕ) (table : TableParts) → SumsFit table.shape.schema.columns checked.spec.items (rows_of table)
         → answer_of table.shape.schema.columns checked.spec (cell (adds_in table.shape.schema.columns) checked.spec (matching_rows checked params table)) ≡ clear table.shape.schema.columns checked.spec (matching_rows checked params table) }
+{}
+
+/// What a clear answer means. Over rows whose numbers rise, as those of a table that match do, each outcome of each group is
+/// what its item gives over the group's rows: MAX and MIN a value that some row has and that none is above or below, NULL
+/// exactly over no row; TOPK the first k of the rows in falling order of their sort values, equal ones in the table's order.
+/// No other outcome is.
+pub fn clear_answers_mean_their_items()
+    ensures means { (columns : List ColumnParts) (spec : CellSpec) (rows : List Row) → RowsRise rows → All (IsGroupOver columns spec rows) (clear columns spec rows) }
+    ensures alone { (columns : List ColumnParts) (rows : List Row) (item : CellItem) (outcome : Outcome) → RowsRise rows → IsOutcome columns rows item outcome → outcome ≡ clear_item columns item rows }
+    ensures rise { (checked : TheChecked) (params : List ℕ) (table : TableParts) → RowsRise (matching_rows checked params table) }
 {}
