@@ -62,7 +62,12 @@ Checks (Ok c) q schema = IsAccepted q schema × (c ≡ checked_of q schema)
 Checks (Err OutOfMemory) q schema = Unit {0}
 Checks (Err e) q schema = refusal q schema ≡ Some e
 
--- The test passed where there is no such fault, or it gave the fault, unless memory ran out.
+-- The test, which takes no memory, passed where there is no such fault, or it gave the fault.
+abbrev pub Finds : Result (Unit {0}) QueryFault → Option QueryFault → Type 0
+Finds (Ok x) fault = fault ≡ None
+Finds (Err e) fault = fault ≡ Some e
+
+-- The same of a test that takes memory, unless memory ran out.
 abbrev pub Judges : Result (Unit {0}) QueryFault → Option QueryFault → Type 0
 Judges (Ok x) fault = fault ≡ None
 Judges (Err OutOfMemory) fault = Unit {0}

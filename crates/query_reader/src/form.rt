@@ -3,14 +3,14 @@ ghost use Rattle.std.specs.Prelude.{◌≡◌, ◌^◌, ◌-◌, ◌≤◌, leng
 ghost use Rattle.std.specs.List.{list_any, sum_by};
 ghost use Rattle.query_reader.specs.Columns.{column_bits as bits_of_column};
 ghost use Rattle.query_reader.specs.Refusals.{no_secret, differing, branches_differ, too_wide, too_many_branches, bad_topk, form_refusal, first_branch as branch_of, same_atom as atom_test, same_atoms as atoms_test, is_bad_topk as topk_test, atom_name as name_of_atom, key_bits as bits_of_key};
-ghost use Rattle.query_reader.specs.Accepted.{Judges};
+ghost use Rattle.query_reader.specs.Accepted.{Finds};
 
 use crate::columns::column_bits;
 use query_parser::{Atom, Atoms, Item, Query, QueryFault};
 use spl_values::{Name, Schema};
 
 fn check_secret(query: &Query) -> Result<(), QueryFault>
-    ensures { Judges result (no_secret query.now) }
+    ensures { Finds result (no_secret query.now) }
 {
     if query.branches.as_slice().is_empty() {
         Err(QueryFault::NoSecret)
@@ -79,7 +79,7 @@ fn differing_branch(branches: &[Atoms]) -> Option<u32>
 
 /// Every branch has the atoms of branch 0.
 fn check_branches(query: &Query) -> Result<(), QueryFault>
-    ensures { Judges result (branches_differ query.now) }
+    ensures { Finds result (branches_differ query.now) }
 {
     match differing_branch(query.branches.as_slice()) {
         Some(place) => Err(QueryFault::BranchesDiffer(place)),
@@ -116,7 +116,7 @@ pub(crate) fn key_bits(query: &Query, schema: &Schema) -> u64
 }
 
 fn check_width(query: &Query, schema: &Schema) -> Result<(), QueryFault>
-    ensures { Judges result (too_wide query.now schema.now) }
+    ensures { Finds result (too_wide query.now schema.now) }
 {
     let bits = key_bits(query, schema);
     if bits > 128 {
@@ -127,7 +127,7 @@ fn check_width(query: &Query, schema: &Schema) -> Result<(), QueryFault>
 }
 
 fn check_branch_count(query: &Query) -> Result<(), QueryFault>
-    ensures { Judges result (too_many_branches query.now) }
+    ensures { Finds result (too_many_branches query.now) }
 {
     let branches = query.branches.as_slice().len();
     if branches > 8 {
@@ -157,7 +157,7 @@ fn any_bad_topk(grouped: bool, items: &[Item]) -> bool
 }
 
 fn check_topk(query: &Query) -> Result<(), QueryFault>
-    ensures { Judges result (bad_topk query.now) }
+    ensures { Finds result (bad_topk query.now) }
 {
     if any_bad_topk(query.group.is_some(), query.items.as_slice()) {
         Err(QueryFault::BadTopk)
@@ -170,7 +170,7 @@ fn check_topk(query: &Query) -> Result<(), QueryFault>
 /// aren't too many branches, and TOPK stands where it can.
 #[tactic(auto, unfolding(crate::specs::Refusals::form_refusal))]
 pub(crate) fn check_form(query: &Query, schema: &Schema) -> Result<(), QueryFault>
-    ensures { Judges result (form_refusal query.now schema.now) }
+    ensures { Finds result (form_refusal query.now schema.now) }
 {
     check_secret(query)?;
     check_branches(query)?;

@@ -3,7 +3,7 @@ ghost use Rattle.std.specs.Prelude.{◌≡◌, ◌<◌, length, position, find, 
 ghost use Rattle.spl_values.specs.Kinds.{is_kind};
 ghost use Rattle.query_reader.specs.Refusals.{no_table, no_column, wrong_type, name_refusal, is_wrong as wrong_test, is_wrong_in};
 ghost use Rattle.query_reader.specs.Columns.{column_of, kind_of};
-ghost use Rattle.query_reader.specs.Accepted.{Judges};
+ghost use Rattle.query_reader.specs.Accepted.{Finds, Judges};
 
 use crate::columns::{column, literal_value};
 use crate::uses::{Role, Use, uses};
@@ -12,7 +12,7 @@ use spl_values::{ColumnType, Schema, bits};
 use std::alloc::Global;
 
 fn check_table(query: &Query, schema: &Schema) -> Result<(), QueryFault>
-    ensures { Judges result (no_table query.now schema.now) }
+    ensures { Finds result (no_table query.now schema.now) }
 {
     if query.table == schema.table {
         Ok(())

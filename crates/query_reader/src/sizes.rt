@@ -3,7 +3,7 @@ ghost use Rattle.std.specs.Prelude.{◌≡◌, ◌^◌, ◌-◌, min, map, lengt
 ghost use Rattle.query_reader.specs.Columns.{place_of};
 ghost use Rattle.query_reader.specs.Refusals.{cell_item as item_of_cell, spec_of, group_labels as labels_of_group, cells_too_wide, too_long, size_refusal};
 ghost use Rattle.query_tokens.specs.Printing.{canonical_text};
-ghost use Rattle.query_reader.specs.Accepted.{Judges};
+ghost use Rattle.query_reader.specs.Accepted.{Finds, Judges};
 
 use crate::columns::{label_count, place};
 use cell_merge::{CellItem, CellItems, CellSpec, width};
@@ -76,7 +76,7 @@ pub(crate) fn cell_spec(
 }
 
 fn check_cells(spec: &CellSpec) -> Result<(), QueryFault>
-    ensures { Judges result (cells_too_wide spec.now) }
+    ensures { Finds result (cells_too_wide spec.now) }
 {
     let words = width(spec);
     if words > 128 {
