@@ -1,12 +1,13 @@
 //! What the program asks of the outside: files, random words and a place to print.
 //!
-//! Each is a trait that counts its faults. A call answers `Failed` only where that count rose in it, so
-//! a program that stops for a fault can't have made it up. What an object holds is told by the
-//! forms in memory, which tests use, and by no real one; clauses on content hold where it is told.
+//! Each is a trait that counts its faults. The count rises in the calls that answer `Failed` and in no
+//! others, so a program that stops for a fault can't have made it up, and one that passes over a fault
+//! shows it in the count. What an object holds is told by the forms in memory, which tests use, and by
+//! no real one; clauses on content hold where it is told.
 #![tactic(auto)]
 
 ghost use Rattle.std.specs.Prelude.{◌≡◌, ◌≤◌, ℕ, List, Option, length, IfSome, IfOk, IsErr, IsErrOf, IsSomeAnd};
-ghost use Rattle.spl_outside.specs.Causes.{HasCause};
+ghost use Rattle.spl_outside.specs.Causes.{Counts};
 ghost use Rattle.spl_outside.specs.Content.{FileMap, ReadsFile, WritesFile, KeepsOthers, DrawsWord, Appends};
 
 use std::alloc::Global;
@@ -63,7 +64,7 @@ pub trait Files {
         ensures content { IfSome (held self.old) (λ m. ReadsFile m name.now limit result) }
         ensures bound { IfOk result (λ v. length v.items ≤ limit) }
         ensures stays { held self.new ≡ held self.old }
-        ensures cause { HasCause (faults self.old) (faults self.new) (IsErrOf result FileStop.Failed) };
+        ensures cause { Counts (faults self.old) (faults self.new) (IsErrOf result FileStop.Failed) };
 
     /// Makes a name hold the bytes.
     ///
@@ -74,7 +75,7 @@ pub trait Files {
         ensures others { IfSome (held self.old) (λ m. IsSomeAnd (held self.new) (KeepsOthers m name.now)) }
         ensures not_absent { IsErrOf result FileStop.Absent → ⊥ }
         ensures not_too_long { IsErrOf result FileStop.TooLong → ⊥ }
-        ensures cause { HasCause (faults self.old) (faults self.new) (IsErrOf result FileStop.Failed) };
+        ensures cause { Counts (faults self.old) (faults self.new) (IsErrOf result FileStop.Failed) };
 }
 
 /// A source of random words.
@@ -90,7 +91,7 @@ pub trait Draw {
     /// A call that fails takes none.
     fn word(&mut self) -> Result<u64, Failed>
         ensures content { IfSome (words self.old) (λ ws. DrawsWord ws (words self.new) result) }
-        ensures cause { HasCause (faults self.old) (faults self.new) (IsErr result) };
+        ensures cause { Counts (faults self.old) (faults self.new) (IsErr result) };
 }
 
 /// Where bytes are written.
@@ -106,5 +107,5 @@ pub trait Sink {
     /// After `Failed` some first ones of them were appended, and after `OutOfMemory` none.
     fn write(&mut self, alloc: Global, bytes: &[u8]) -> Result<(), Stop>
         ensures content { IfSome (written self.old) (λ w. Appends w bytes.now (written self.new) result) }
-        ensures cause { HasCause (faults self.old) (faults self.new) (IsErrOf result Stop.Failed) };
+        ensures cause { Counts (faults self.old) (faults self.new) (IsErrOf result Stop.Failed) };
 }
