@@ -4,6 +4,8 @@
 #[cfg(test)]
 mod failing_calls;
 #[cfg(test)]
+mod host_forms;
+#[cfg(test)]
 mod refusals;
 #[cfg(test)]
 mod runs;
