@@ -1,8 +1,11 @@
-//! A key frame and a note, spelled out by hand; their digests are those that another program computed.
-use key_frames::{Key, read_key_frame, read_note, write_key_frame, write_note};
+//! A key frame and a note are read up to their first fault, and written again. Their bytes are written by hand; their
+//! digests are those that another program computed.
+use crate::fixtures::joined;
+use interval_keys::ThresholdKey;
+use key_frames::{Key, KeyFrame, Note, read_key_frame, read_note, write_key_frame, write_note};
+use point_keys::PointKey;
 use spl_words::{FrameFault, Provider};
-use std::alloc::Global;
-use std::test::Fail;
+use std::alloc::{AllocError, Global};
 
 const FRAME_HEAD: &[u8] =
     b"SPLK\x01\x01\x01\x00\x01\x02\x03\x04\x05\x06\x07\x08\x09\n\x0b\x0c\x0d\x0e\x0f\x00 ";
@@ -31,19 +34,8 @@ const NOTE_DIGEST: [u8; 32] = [
     0xaa, 0x9c, 0x47, 0x5e, 0x6f, 0x6e, 0x7f, 0xb8, 0x2d, 0xfa, 0xb7, 0x88, 0x2c, 0x34, 0xdb, 0x0e,
 ];
 
-/// The parts one behind the other, with the byte at a place changed.
-fn joined(alloc: Global, parts: &[&[u8]], at: usize, byte: u8) -> Result<Vec<u8>, Fail> {
-    let mut bytes = Vec::new(alloc);
-    for part in parts {
-        bytes.extend_from_slice(part)?;
-    }
-    if let Some(place) = bytes.get_mut(at) {
-        *place = byte;
-    }
-    Ok(bytes)
-}
-
-fn frame_with(alloc: Global, at: usize, byte: u8) -> Result<Vec<u8>, Fail> {
+/// The bytes of the key frame, with the one at a place changed.
+fn frame_with(alloc: Global, at: usize, byte: u8) -> Result<Vec<u8>, AllocError> {
     joined(
         alloc,
         &[FRAME_HEAD, QUERY, SHAPE_LENGTH, SHAPE, KEYS, &FRAME_DIGEST],
@@ -52,7 +44,74 @@ fn frame_with(alloc: Global, at: usize, byte: u8) -> Result<Vec<u8>, Fail> {
     )
 }
 
-fn note_with(alloc: Global, at: usize, byte: u8) -> Result<Vec<u8>, Fail> {
+/// The key frame that they spell.
+fn read_frame_with(alloc: Global, at: usize, byte: u8) -> Result<KeyFrame, FrameFault> {
+    let bytes = frame_with(alloc, at, byte)?;
+    read_key_frame(alloc, &bytes)
+}
+
+/// Whether a frame's fields and texts are those that the bytes spell.
+fn is_frame(frame: &KeyFrame) -> bool {
+    let fields = frame.session == 0x0001_0203_0405_0607_0809_0a0b_0c0d_0e0f
+        && frame.round == 1
+        && frame.provider == Provider::One;
+    fields && frame.query.as_slice() == QUERY && frame.shape.rows == 3
+}
+
+#[test]
+fn a_key_frame_is_read(rt: HostRuntime) -> Result<(), FrameFault> {
+    let frame = read_frame_with(rt.alloc(), 0, b'S')?;
+    assert!(rt; is_frame(&frame));
+    Ok(())
+}
+
+#[test]
+fn a_key_frame_is_written_as_it_was_read(rt: HostRuntime) -> Result<(), FrameFault> {
+    let frame = read_frame_with(rt.alloc(), 0, b'S')?;
+    let written = write_key_frame(rt.alloc(), &frame)?;
+    let wanted = frame_with(rt.alloc(), 0, b'S')?;
+    assert_eq!(rt; written, wanted);
+    Ok(())
+}
+
+/// Whether a point key is the one that the bytes spell.
+fn is_point(point: &PointKey) -> bool {
+    let mut right = true;
+    for level in point.levels.as_slice() {
+        right = right && !level.bit_l && level.bit_r;
+    }
+    right && point.last == 7
+}
+
+/// Whether a threshold key is the one that the bytes spell.
+fn is_threshold(threshold: &ThresholdKey) -> bool {
+    let mut left = true;
+    for level in threshold.levels.as_slice() {
+        let bits = level.correction.bit_l && !level.correction.bit_r;
+        left = left && bits && level.word_l == 8 && level.word_r == 9;
+    }
+    left && threshold.last == u64::MAX - 1
+}
+
+/// Whether the keys are those that the bytes spell, in their order.
+fn are_keys(keys: &[Key]) -> bool {
+    match keys {
+        [Key::Point(point), Key::Threshold(threshold)] => {
+            is_point(point) && is_threshold(threshold)
+        }
+        _ => false,
+    }
+}
+
+#[test]
+fn keys_are_read_in_their_order(rt: HostRuntime) -> Result<(), FrameFault> {
+    let frame = read_frame_with(rt.alloc(), 0, b'S')?;
+    assert!(rt; are_keys(frame.keys.as_slice()));
+    Ok(())
+}
+
+/// The bytes of the note, with the one at a place changed.
+fn note_with(alloc: Global, at: usize, byte: u8) -> Result<Vec<u8>, AllocError> {
     joined(
         alloc,
         &[
@@ -71,111 +130,91 @@ fn note_with(alloc: Global, at: usize, byte: u8) -> Result<Vec<u8>, Fail> {
     )
 }
 
+/// The note that they spell.
+fn read_note_with(alloc: Global, at: usize, byte: u8) -> Result<Note, FrameFault> {
+    let bytes = note_with(alloc, at, byte)?;
+    read_note(alloc, &bytes)
+}
+
+/// Whether a note's round, parameters and digests are those that the bytes spell.
+fn is_note(note: &Note) -> bool {
+    let digests = note.key_zero == [0xaa; 32] && note.key_one == [0xbb; 32];
+    let told = note.round == 2 && note.params.as_slice() == [5].as_slice();
+    told && digests && note.table == [0xcc; 32]
+}
+
 #[test]
-fn a_key_frame_is_read_and_written(rt: HostRuntime) -> Result<(), Fail> {
-    let bytes = frame_with(rt.alloc(), 0, b'S')?;
-    match read_key_frame(rt.alloc(), &bytes) {
-        Ok(frame) => {
-            assert_eq!(rt; frame.session, 0x0001_0203_0405_0607_0809_0a0b_0c0d_0e0f);
-            assert_eq!(rt; frame.round, 1);
-            assert!(rt; frame.provider == Provider::One);
-            assert_eq!(rt; frame.query.as_slice(), QUERY);
-            assert_eq!(rt; frame.shape.rows, 3);
-            assert_eq!(rt; write_key_frame(rt.alloc(), &frame)?, bytes);
-        }
-        Err(_) => assert!(rt; false, "the frame is read"),
-    }
+fn a_note_is_read(rt: HostRuntime) -> Result<(), FrameFault> {
+    let note = read_note_with(rt.alloc(), 0, b'S')?;
+    assert!(rt; is_note(&note));
     Ok(())
 }
 
 #[test]
-fn keys_are_read_in_their_order(rt: HostRuntime) -> Result<(), Fail> {
-    let bytes = frame_with(rt.alloc(), 0, b'S')?;
-    let Ok(frame) = read_key_frame(rt.alloc(), &bytes) else {
-        assert!(rt; false, "the frame is read");
-        return Ok(());
-    };
-    match frame.keys.as_slice() {
-        [Key::Point(point), Key::Threshold(threshold)] => {
-            assert_eq!(rt; point.last, 7);
-            for level in point.levels.as_slice() {
-                assert!(rt; !level.bit_l && level.bit_r);
-            }
-            assert_eq!(rt; threshold.last, u64::MAX - 1);
-            for level in threshold.levels.as_slice() {
-                assert!(rt; level.correction.bit_l && !level.correction.bit_r);
-                assert_eq!(rt; level.word_l, 8);
-                assert_eq!(rt; level.word_r, 9);
-            }
-        }
-        _ => assert!(rt; false, "a point key and a threshold key"),
-    }
+fn a_note_is_written_as_it_was_read(rt: HostRuntime) -> Result<(), FrameFault> {
+    let note = read_note_with(rt.alloc(), 0, b'S')?;
+    let written = write_note(rt.alloc(), &note)?;
+    let wanted = note_with(rt.alloc(), 0, b'S')?;
+    assert_eq!(rt; written, wanted);
     Ok(())
 }
 
-#[test]
-fn a_note_is_read_and_written(rt: HostRuntime) -> Result<(), Fail> {
-    let bytes = note_with(rt.alloc(), 0, b'S')?;
-    match read_note(rt.alloc(), &bytes) {
-        Ok(note) => {
-            assert_eq!(rt; note.round, 2);
-            assert_eq!(rt; note.params.as_slice(), [5].as_slice());
-            assert_eq!(rt; note.key_zero, [0xaa; 32]);
-            assert_eq!(rt; note.key_one, [0xbb; 32]);
-            assert_eq!(rt; note.table, [0xcc; 32]);
-            assert_eq!(rt; write_note(rt.alloc(), &note)?, bytes);
+/// The byte of a key frame that is changed, and the fault.
+const FRAME_FAULTS: &[(usize, u8, FrameFault)] = &[
+    (0, b'T', FrameFault::BadMagic),
+    (4, 2, FrameFault::BadVersion(2)),
+    (5, 0, FrameFault::BadField(5)),
+    (6, 2, FrameFault::BadField(6)),
+    (23, 0x10, FrameFault::BadField(23)),
+    (30, 0x1f, FrameFault::BadField(30)),
+    (30, 0x7f, FrameFault::BadField(30)),
+    (58, 24, FrameFault::BadField(59)),
+    (59, b'T', FrameFault::BadField(59)),
+    (84, 2, FrameFault::BadField(84)),
+    (85, 1, FrameFault::Trailing(161)),
+    (86, 2, FrameFault::BadField(86)),
+    (87, 129, FrameFault::BadField(87)),
+    (120, 4, FrameFault::BadField(120)),
+    (163, 0x81, FrameFault::BadField(163)),
+];
+
+/// The place of the first case that is read, or refused otherwise.
+fn first_other_frame_fault(alloc: Global) -> Option<usize> {
+    for (at, byte, fault) in FRAME_FAULTS {
+        if read_frame_with(alloc, *at, *byte).err() != Some(*fault) {
+            return Some(*at);
         }
-        Err(_) => assert!(rt; false, "the note is read"),
     }
-    Ok(())
+    None
 }
 
-// The byte of a key frame that is changed, and the fault.
 #[test]
-fn the_first_fault_of_a_key_frame_is_named(rt: HostRuntime) -> Result<(), Fail> {
-    for (at, byte, fault) in [
-        (0, b'T', FrameFault::BadMagic),
-        (4, 2, FrameFault::BadVersion(2)),
-        (5, 0, FrameFault::BadField(5)),
-        (6, 2, FrameFault::BadField(6)),
-        (23, 0x10, FrameFault::BadField(23)),
-        (30, 0x1f, FrameFault::BadField(30)),
-        (30, 0x7f, FrameFault::BadField(30)),
-        (58, 24, FrameFault::BadField(59)),
-        (59, b'T', FrameFault::BadField(59)),
-        (84, 2, FrameFault::BadField(84)),
-        (85, 1, FrameFault::Trailing(161)),
-        (86, 2, FrameFault::BadField(86)),
-        (87, 129, FrameFault::BadField(87)),
-        (120, 4, FrameFault::BadField(120)),
-        (163, 0x81, FrameFault::BadField(163)),
-    ] {
-        let bytes = frame_with(rt.alloc(), at, byte)?;
-        match read_key_frame(rt.alloc(), &bytes) {
-            Ok(_) => assert!(rt; false, "byte {at} is wrong"),
-            Err(found) => assert!(rt; found == fault, "byte {at}"),
-        }
-    }
-    Ok(())
+fn the_first_fault_of_a_key_frame_is_named(rt: HostRuntime) {
+    assert_eq!(rt; first_other_frame_fault(rt.alloc()), None);
 }
 
-// The byte of a note that is changed, and the fault. In round 1 its table would be zeros.
-#[test]
-fn the_first_fault_of_a_note_is_named(rt: HostRuntime) -> Result<(), Fail> {
-    for (at, byte, fault) in [
-        (3, b'K', FrameFault::BadMagic),
-        (5, 3, FrameFault::BadField(5)),
-        (5, 1, FrameFault::BadField(164)),
-        (23, 0, FrameFault::BadField(22)),
-        (57, 24, FrameFault::BadField(58)),
-        (83, 0, FrameFault::BadField(83)),
-        (83, 2, FrameFault::Short(244, 228)),
-    ] {
-        let bytes = note_with(rt.alloc(), at, byte)?;
-        match read_note(rt.alloc(), &bytes) {
-            Ok(_) => assert!(rt; false, "byte {at} is wrong"),
-            Err(found) => assert!(rt; found == fault, "byte {at}"),
+/// The byte of a note that is changed, and the fault. In round 1 its table would be zeros.
+const NOTE_FAULTS: &[(usize, u8, FrameFault)] = &[
+    (3, b'K', FrameFault::BadMagic),
+    (5, 3, FrameFault::BadField(5)),
+    (5, 1, FrameFault::BadField(164)),
+    (23, 0, FrameFault::BadField(22)),
+    (57, 24, FrameFault::BadField(58)),
+    (83, 0, FrameFault::BadField(83)),
+    (83, 2, FrameFault::Short(244, 228)),
+];
+
+/// The place of the first case that is read, or refused otherwise.
+fn first_other_note_fault(alloc: Global) -> Option<usize> {
+    for (at, byte, fault) in NOTE_FAULTS {
+        if read_note_with(alloc, *at, *byte).err() != Some(*fault) {
+            return Some(*at);
         }
     }
-    Ok(())
+    None
+}
+
+#[test]
+fn the_first_fault_of_a_note_is_named(rt: HostRuntime) {
+    assert_eq!(rt; first_other_note_fault(rt.alloc()), None);
 }

@@ -6,6 +6,8 @@ mod answers;
 #[cfg(test)]
 mod fields;
 #[cfg(test)]
+mod fixtures;
+#[cfg(test)]
 mod keys;
 #[cfg(test)]
 mod outside;

@@ -1,32 +1,36 @@
+//! A sum of at most 2^64 - 1 is given, and of a greater one the row where it is passed.
 use csv_tables::read_table;
-use spl_values::read_shape;
-use std::alloc::Global;
+use spl_values::{Table, read_shape};
 use std::test::Fail;
-use sum_bounds::*;
+use sum_bounds::{AtRow, check_sum};
 
-// The sum of column 1 of a text with two rows.
-fn sum_of(alloc: Global, text: &[u8]) -> Result<Result<u64, AtRow>, Fail> {
-    let shape = read_shape(alloc, b"table t\nrows 2\na UINT(1)\nv UINT(64)\n");
-    if let Ok(shape) = shape {
-        if let Ok(table) = read_table(alloc, text, &shape) {
-            if table.shape().schema.columns.as_slice().len() > 1 {
-                return Ok(check_sum(&table, 1));
-            }
-        }
+const TWO_ROWS: &[u8] = b"table t\nrows 2\na UINT(1)\nv UINT(64)\n";
+
+/// The sum of the second column, where there is one.
+fn second_sum(table: &Table) -> Option<Result<u64, AtRow>> {
+    if table.shape().schema.columns.as_slice().len() > 1 {
+        Some(check_sum(table, 1))
+    } else {
+        None
     }
-    Ok(Ok(0))
 }
 
 #[test]
-fn sums_have_a_bound(rt: HostRuntime) -> Result<(), Fail> {
-    let alloc = rt.alloc();
-    let within = sum_of(alloc, b"a,v\n1,18446744073709551614\n1,1\n")?;
-    assert_eq!(rt; within, Ok(18446744073709551615));
-    let over = sum_of(alloc, b"a,v\n1,18446744073709551615\n1,1\n")?;
-    let at = AtRow {
+fn the_greatest_sum_is_given(rt: HostRuntime) -> Result<(), Fail> {
+    let shape = read_shape(rt.alloc(), TWO_ROWS)?;
+    let table = read_table(rt.alloc(), b"a,v\n1,18446744073709551614\n1,1\n", &shape)?;
+    assert_eq!(rt; second_sum(&table), Some(Ok(18_446_744_073_709_551_615)));
+    Ok(())
+}
+
+#[test]
+fn a_greater_sum_is_told_with_its_row(rt: HostRuntime) -> Result<(), Fail> {
+    let shape = read_shape(rt.alloc(), TWO_ROWS)?;
+    let table = read_table(rt.alloc(), b"a,v\n1,18446744073709551615\n1,1\n", &shape)?;
+    let passed = AtRow {
         row: 1,
-        sum: 18446744073709551616,
+        sum: 18_446_744_073_709_551_616,
     };
-    assert_eq!(rt; over, Err(at));
+    assert_eq!(rt; second_sum(&table), Some(Err(passed)));
     Ok(())
 }

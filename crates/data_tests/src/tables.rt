@@ -1,133 +1,141 @@
+//! Texts are tables of a shape or refused, tables are written and digested, and rows have keys.
 ghost use Rattle.std.specs.Prelude.{◌<◌, length};
 
+use crate::fixtures::{FLIGHTS, FLIGHTS_SHAPE};
 use csv_tables::*;
-use spl_values::{Table, ValueFault, bits, join_key, read_shape};
+use spl_values::{Bytes, Shape, ShapeFault, Table, ValueFault, bits, join_key, read_shape};
 use std::alloc::Global;
 use std::test::Fail;
 
-const FLIGHTS_SHAPE: &[u8] =
-    b"table flights\nrows 5\norigin TEXT(3)\ndest TEXT(3)\nmonth UINT(4)\nprice UINT(16)\n";
+const ONE_TEXT: &[u8] = b"table t\nrows 1\na TEXT(3)\n";
 
-const FLIGHTS: &[u8] =
-    b"origin,dest,month,price\nSFO,JFK,3,300\nSFO,JFK,4,450\nSFO,BOS,3,200\nLAX,JFK,5,310\nSFO,JFK,5,600\n";
+const TWO_ROWS: &[u8] = b"table t\nrows 2\na UINT(4)\nk ENUM(x|y)\n";
 
-// Why a text has no table of a shape, where the shape's text has no fault.
-fn fault_of(alloc: Global, shape: &[u8], text: &[u8]) -> Result<Option<TableFault>, Fail> {
-    match read_shape(alloc, shape) {
-        Ok(shape) => match read_table(alloc, text, &shape) {
-            Ok(_) => Ok(None),
-            Err(fault) => Ok(Some(fault)),
-        },
-        Err(_) => Ok(Some(TableFault::OutOfMemory)),
-    }
-}
+/// A text, and why it is no table of the shape.
+type TableCase = (&'static [u8], Option<TableFault>);
 
-#[test]
-fn table_faults(rt: HostRuntime) -> Result<(), Fail> {
-    let one: &[u8] = b"table t\nrows 1\na TEXT(3)\n";
-    let two: &[u8] = b"table t\nrows 2\na UINT(4)\nk ENUM(x|y)\n";
-    let cases: [(&[u8], &[u8], Option<TableFault>); 17] = [
-        (one, b"", Some(TableFault::BadHeader)),
-        (one, b"\n\n", Some(TableFault::BadHeader)),
-        (one, b"A\nSFO\n", Some(TableFault::BadHeader)),
-        (one, b"a,b\nSFO\n", Some(TableFault::BadHeader)),
-        (
-            one,
-            b"a\n\xff\n",
-            Some(TableFault::BadCell(0, 0, ValueFault::BadByte(0))),
-        ),
-        (
-            one,
-            b"a\nSFOX\n",
-            Some(TableFault::BadCell(0, 0, ValueFault::TooLong(4))),
-        ),
-        (one, b"a\n", Some(TableFault::RowCount(0, 1))),
-        (
-            one,
-            b"a\n\"a\nb\"\n",
-            Some(TableFault::BadCell(0, 0, ValueFault::BadByte(1))),
-        ),
-        (one, b"\xef\xbb\xbf\"a\"\r\n\r\n\"a\"\"\"\r\n\r\n", None),
-        (one, b"a\n\"a,b\"", None),
-        (one, b"a\n\"\"\n", None),
-        (two, b"a,k\n1,x\n", Some(TableFault::RowCount(1, 2))),
-        (
-            two,
-            b"a,k\n1,x\n1,x\n1,x\n",
-            Some(TableFault::RowCount(3, 2)),
-        ),
-        (
-            two,
-            b"a,k\n1,x\n16,z\n1\n",
-            Some(TableFault::BadCell(1, 0, ValueFault::TooLarge)),
-        ),
-        (
-            two,
-            b"a,k\n1,x\n1,x,\n16,z\n",
-            Some(TableFault::RowLength(1)),
-        ),
-        (
-            two,
-            b"a,k\n1,x\n1,x\n1,z\n",
-            Some(TableFault::BadCell(2, 1, ValueFault::NoSuchLabel)),
-        ),
-        (
-            two,
-            b"a,k\n 1,x\n1,x\n",
-            Some(TableFault::BadCell(0, 0, ValueFault::NotANumber)),
-        ),
-    ];
-    for (shape, text, fault) in cases.iter() {
-        assert_eq!(rt; fault_of(rt.alloc(), shape, text)?, *fault);
-    }
-    Ok(())
-}
+const ONE_TEXT_CASES: &[TableCase] = &[
+    (b"", Some(TableFault::BadHeader)),
+    (b"\n\n", Some(TableFault::BadHeader)),
+    (b"A\nSFO\n", Some(TableFault::BadHeader)),
+    (b"a,b\nSFO\n", Some(TableFault::BadHeader)),
+    (
+        b"a\n\xff\n",
+        Some(TableFault::BadCell(0, 0, ValueFault::BadByte(0))),
+    ),
+    (
+        b"a\nSFOX\n",
+        Some(TableFault::BadCell(0, 0, ValueFault::TooLong(4))),
+    ),
+    (b"a\n", Some(TableFault::RowCount(0, 1))),
+    (
+        b"a\n\"a\nb\"\n",
+        Some(TableFault::BadCell(0, 0, ValueFault::BadByte(1))),
+    ),
+    (b"\xef\xbb\xbf\"a\"\r\n\r\n\"a\"\"\"\r\n\r\n", None),
+    (b"a\n\"a,b\"", None),
+    (b"a\n\"\"\n", None),
+];
 
-#[test]
-fn flights_are_written_and_digested(rt: HostRuntime) -> Result<(), Fail> {
-    let alloc = rt.alloc();
-    // SHA-256 of the shape's text and the table's, by sha256sum.
-    let digest: [u8; 32] = [
-        0x00, 0xbc, 0x35, 0x63, 0xdc, 0x4d, 0xde, 0x2e, 0xd8, 0x6b, 0x69, 0xc6, 0xd9, 0x40, 0x5b,
-        0x5a, 0x51, 0xa7, 0x14, 0x2b, 0x2c, 0x42, 0x86, 0x3e, 0xef, 0x70, 0xa2, 0xfd, 0xb2, 0x00,
-        0xce, 0xef,
-    ];
-    let quoted: &[u8] =
-        b"\"origin\",dest,month,price\r\nSFO,JFK,03,300\nSFO,JFK,4,450\nSFO,\"BOS\",3,200\nLAX,JFK,5,310\nSFO,JFK,5,600";
-    match read_shape(alloc, FLIGHTS_SHAPE) {
-        Ok(shape) => {
-            for text in [FLIGHTS, quoted] {
-                match read_table(alloc, text, &shape) {
-                    Ok(table) => {
-                        assert_eq!(rt; write_table(alloc, &table)?.as_slice(), FLIGHTS);
-                        assert!(rt; table_digest(alloc, &table)? == digest);
-                    }
-                    Err(fault) => assert_eq!(rt; Some(fault), None),
-                }
-            }
+const TWO_ROWS_CASES: &[TableCase] = &[
+    (b"a,k\n1,x\n", Some(TableFault::RowCount(1, 2))),
+    (b"a,k\n1,x\n1,x\n1,x\n", Some(TableFault::RowCount(3, 2))),
+    (
+        b"a,k\n1,x\n16,z\n1\n",
+        Some(TableFault::BadCell(1, 0, ValueFault::TooLarge)),
+    ),
+    (b"a,k\n1,x\n1,x,\n16,z\n", Some(TableFault::RowLength(1))),
+    (
+        b"a,k\n1,x\n1,x\n1,z\n",
+        Some(TableFault::BadCell(2, 1, ValueFault::NoSuchLabel)),
+    ),
+    (
+        b"a,k\n 1,x\n1,x\n",
+        Some(TableFault::BadCell(0, 0, ValueFault::NotANumber)),
+    ),
+];
+
+/// The first text that is taken otherwise.
+fn first_other_table(alloc: Global, shape: &Shape, cases: &[TableCase]) -> Option<usize> {
+    for (at, (text, wanted)) in cases.iter().enumerate() {
+        if read_table(alloc, text, shape).err() != *wanted {
+            return Some(at);
         }
-        Err(fault) => assert_eq!(rt; Some(fault), None),
     }
+    None
+}
+
+#[test]
+fn table_faults_of_one_text(rt: HostRuntime) -> Result<(), ShapeFault> {
+    let shape = read_shape(rt.alloc(), ONE_TEXT)?;
+    assert_eq!(rt; first_other_table(rt.alloc(), &shape, ONE_TEXT_CASES), None);
     Ok(())
 }
 
 #[test]
-fn cells_that_need_quotes(rt: HostRuntime) -> Result<(), Fail> {
-    let alloc = rt.alloc();
-    match read_shape(alloc, b"table t\nrows 3\na TEXT(4)\n") {
-        Ok(shape) => {
-            let text: &[u8] = b"a\n\"a,b\"\n\"\"\"\"\n\"\"\n";
-            match read_table(alloc, text, &shape) {
-                Ok(table) => assert_eq!(rt; write_table(alloc, &table)?.as_slice(), text),
-                Err(fault) => assert_eq!(rt; Some(fault), None),
-            }
-        }
-        Err(fault) => assert_eq!(rt; Some(fault), None),
-    }
+fn table_faults_of_two_rows(rt: HostRuntime) -> Result<(), ShapeFault> {
+    let shape = read_shape(rt.alloc(), TWO_ROWS)?;
+    assert_eq!(rt; first_other_table(rt.alloc(), &shape, TWO_ROWS_CASES), None);
     Ok(())
 }
 
-// The key of the first row over two columns, if there is a row and the key has at most 128 bits.
+/// The text of a table, written.
+fn written(alloc: Global, text: &[u8], shape: &Shape) -> Result<Bytes, TableFault> {
+    let table = read_table(alloc, text, shape)?;
+    Ok(write_table(alloc, &table)?)
+}
+
+/// The digest of a table's text.
+fn digested(alloc: Global, text: &[u8], shape: &Shape) -> Result<[u8; 32], TableFault> {
+    let table = read_table(alloc, text, shape)?;
+    Ok(table_digest(alloc, &table)?)
+}
+
+/// The same table with quotes, returns and a number's zero that it need not have.
+const QUOTED: &[u8] =
+    b"\"origin\",dest,month,price\r\nSFO,JFK,03,300\nSFO,JFK,4,450\nSFO,\"BOS\",3,200\nLAX,JFK,5,310\nSFO,JFK,5,600";
+
+/// Whether that is a table's text, written.
+fn is_written(alloc: Global, text: &[u8], shape: &Shape, wanted: &[u8]) -> bool {
+    match written(alloc, text, shape) {
+        Ok(found) => found.as_slice() == wanted,
+        Err(_) => false,
+    }
+}
+
+#[test]
+fn flights_are_written(rt: HostRuntime) -> Result<(), ShapeFault> {
+    let shape = read_shape(rt.alloc(), FLIGHTS_SHAPE)?;
+    let plain = is_written(rt.alloc(), FLIGHTS, &shape, FLIGHTS);
+    let quoted = is_written(rt.alloc(), QUOTED, &shape, FLIGHTS);
+    assert_eq!(rt; [plain, quoted], [true; 2]);
+    Ok(())
+}
+
+/// SHA-256 of the shape's text and the table's, by sha256sum.
+const FLIGHTS_DIGEST: [u8; 32] = [
+    0x00, 0xbc, 0x35, 0x63, 0xdc, 0x4d, 0xde, 0x2e, 0xd8, 0x6b, 0x69, 0xc6, 0xd9, 0x40, 0x5b, 0x5a,
+    0x51, 0xa7, 0x14, 0x2b, 0x2c, 0x42, 0x86, 0x3e, 0xef, 0x70, 0xa2, 0xfd, 0xb2, 0x00, 0xce, 0xef,
+];
+
+#[test]
+fn flights_are_digested(rt: HostRuntime) -> Result<(), Fail> {
+    let shape = read_shape(rt.alloc(), FLIGHTS_SHAPE)?;
+    let plain = digested(rt.alloc(), FLIGHTS, &shape)?;
+    let quoted = digested(rt.alloc(), QUOTED, &shape)?;
+    assert_eq!(rt; [plain, quoted], [FLIGHTS_DIGEST; 2]);
+    Ok(())
+}
+
+#[test]
+fn cells_that_need_quotes(rt: HostRuntime) -> Result<(), ShapeFault> {
+    let shape = read_shape(rt.alloc(), b"table t\nrows 3\na TEXT(4)\n".as_slice())?;
+    let text = b"a\n\"a,b\"\n\"\"\"\"\n\"\"\n".as_slice();
+    assert!(rt; is_written(rt.alloc(), text, &shape, text));
+    Ok(())
+}
+
+/// The key of the first row over two columns, if there is a row and the key has at most 128 bits.
 fn first_key(table: &Table, high: u32, low: u32) -> Option<u128>
     requires high { high < length table.now.shape.schema.columns }
     requires low { low < length table.now.shape.schema.columns }
@@ -139,20 +147,21 @@ fn first_key(table: &Table, high: u32, low: u32) -> Option<u128>
     Some(join_key(table, &[high, low], 0))
 }
 
+/// The keys of the first row over its first and third column, either of them the highest.
+fn two_keys(table: &Table) -> [Option<u128>; 2] {
+    if table.shape().schema.columns.as_slice().len() == 4 {
+        [first_key(table, 0, 2), first_key(table, 2, 0)]
+    } else {
+        [None; 2]
+    }
+}
+
+// SFO is 0x53464f, or 5457487, and the month is 3.
 #[test]
 fn keys_have_the_first_column_highest(rt: HostRuntime) -> Result<(), Fail> {
-    let alloc = rt.alloc();
-    match read_shape(alloc, FLIGHTS_SHAPE) {
-        Ok(shape) => match read_table(alloc, FLIGHTS, &shape) {
-            Ok(table) => {
-                assert_eq!(rt; table.shape().schema.columns.as_slice().len(), 4);
-                // SFO is 0x53464f, or 5457487, and the month is 3.
-                assert_eq!(rt; first_key(&table, 0, 2), Some(5457487 * 16 + 3));
-                assert_eq!(rt; first_key(&table, 2, 0), Some(3 * 16777216 + 5457487));
-            }
-            Err(fault) => assert_eq!(rt; Some(fault), None),
-        },
-        Err(fault) => assert_eq!(rt; Some(fault), None),
-    }
+    let shape = read_shape(rt.alloc(), FLIGHTS_SHAPE)?;
+    let table = read_table(rt.alloc(), FLIGHTS, &shape)?;
+    let keys = [Some(5457487 * 16 + 3), Some(3 * 16777216 + 5457487)];
+    assert_eq!(rt; two_keys(&table), keys);
     Ok(())
 }

@@ -1,117 +1,155 @@
+//! Queries and parameters are judged in one step: taken with what is known of them, or refused for the first reason.
+use crate::fixtures::{FLIGHTS, is_refused, is_taken, is_told, schema_of, words_of};
 use judged_queries::{judge_codes, judge_query, judge_query_bytes, judge_words};
-use query_reader::{ParamFault, Params};
-use spl_values::{Schema, Shape, ValueFault, read_shape};
+use query_reader::{Checked, ParamFault};
+use spl_values::{Schema, ShapeFault};
+use std::alloc::Global;
 use std::test::Fail;
 
-fn flights(rt: &HostRuntime) -> Result<Schema, Fail> {
-    let text = b"table flights\nrows 5\norigin TEXT(3)\ndest TEXT(3)\nprice UINT(16)\n";
-    let Shape { schema, .. } = read_shape(rt.alloc(), text.as_slice())?;
-    Ok(schema)
-}
+/// A text, and what is said of it.
+const TEXTS: &[(&str, &str)] = &[
+    (
+        "SELECT COUNT(*) FROM flights WHERE origin = 'SFO' OR dest = ?",
+        "NoReading(50)",
+    ),
+    (
+        "SELECT COUNT(*) FROM flights WHERE origin = 'SFO'",
+        "NoSecret",
+    ),
+    ("SELECT COUNT(*) FROM rides WHERE x = ?", "NoTable"),
+    (
+        "SELECT SUM(price) FROM flights WHERE dest = ? AND price BETWEEN ? AND ?",
+        "40 bits",
+    ),
+];
 
-/// What is said of a query.
-fn said(rt: &HostRuntime, schema: &Schema, text: &'static str) -> Result<String, Fail> {
-    match judge_query(rt.alloc(), schema, text) {
-        Ok(checked) => Ok(format!(in rt.alloc(); "{} bits", checked.bits)?),
-        Err(fault) => Ok(format!(in rt.alloc(); "{fault:?}")?),
+/// The first text of which something else is said.
+fn first_other(alloc: Global, schema: &Schema) -> Option<&'static str> {
+    for (text, wanted) in TEXTS {
+        if !is_told(alloc, judge_query(alloc, schema, text), wanted) {
+            return Some(text);
+        }
     }
+    None
 }
 
-/// Refusals of a text and of the query that it is, the first of them.
 #[test]
-fn texts_are_judged(rt: HostRuntime) -> Result<(), Fail> {
-    let schema = flights(&rt)?;
-    let cases: [(&str, &str); 4] = [
-        (
-            "SELECT COUNT(*) FROM flights WHERE origin = 'SFO' OR dest = ?",
-            "NoReading(50)",
-        ),
-        (
-            "SELECT COUNT(*) FROM flights WHERE origin = 'SFO'",
-            "NoSecret",
-        ),
-        ("SELECT COUNT(*) FROM rides WHERE x = ?", "NoTable"),
-        (
-            "SELECT SUM(price) FROM flights WHERE dest = ? AND price BETWEEN ? AND ?",
-            "40 bits",
-        ),
-    ];
-    for (text, answer) in cases {
-        assert_eq!(rt; said(&rt, &schema, text)?.as_str(), answer, "{text}");
-    }
+fn texts_are_judged(rt: HostRuntime) -> Result<(), ShapeFault> {
+    let schema = schema_of(rt.alloc(), FLIGHTS)?;
+    assert_eq!(rt; first_other(rt.alloc(), &schema), None);
     Ok(())
 }
 
-/// What is said of a query's bytes; nothing where they aren't ASCII.
-fn said_of_bytes(rt: &HostRuntime, bytes: &[u8]) -> Result<Option<String>, Fail> {
-    let schema = flights(rt)?;
-    if !bytes.is_ascii() {
-        return Ok(None);
-    }
-    match judge_query_bytes(rt.alloc(), &schema, bytes) {
-        Ok(checked) => Ok(Some(format!(in rt.alloc(); "{} bits", checked.bits)?)),
-        Err(fault) => Ok(Some(format!(in rt.alloc(); "{fault:?}")?)),
-    }
+/// Whether that is said of bytes that are ASCII.
+fn is_told_of_bytes(alloc: Global, schema: &Schema, bytes: &[u8], wanted: &str) -> bool {
+    bytes.is_ascii() && is_told(alloc, judge_query_bytes(alloc, schema, bytes), wanted)
 }
 
-/// Queries as bytes.
 #[test]
-fn bytes_are_judged(rt: HostRuntime) -> Result<(), Fail> {
-    let counted = b"SELECT COUNT(*) FROM flights WHERE dest = ?;";
-    let cases: [(&[u8], &str); 2] = [(counted, "24 bits"), (b"SELECT", "NoReading(6)")];
-    for (bytes, answer) in cases {
-        let told = said_of_bytes(&rt, bytes)?;
-        assert_eq!(rt; told.ok_or("ASCII")?.as_str(), answer);
-    }
+fn bytes_are_judged(rt: HostRuntime) -> Result<(), ShapeFault> {
+    let schema = schema_of(rt.alloc(), FLIGHTS)?;
+    let counted = b"SELECT COUNT(*) FROM flights WHERE dest = ?;".as_slice();
+    let found = [
+        is_told_of_bytes(rt.alloc(), &schema, counted, "24 bits"),
+        is_told_of_bytes(rt.alloc(), &schema, b"SELECT".as_slice(), "NoReading(6)"),
+    ];
+    assert_eq!(rt; found, [true; 2]);
     Ok(())
 }
 
 /// A query of two question marks.
 const TWO: &str = "SELECT COUNT(*) FROM flights WHERE origin = ? AND price = ?";
 
-/// What is said of parameters that are codes.
-fn of_codes(rt: &HostRuntime, codes: &[u128]) -> Result<Result<Params, ParamFault>, Fail> {
-    let schema = flights(rt)?;
-    let checked = judge_query(rt.alloc(), &schema, TWO)?;
-    Ok(judge_codes(rt.alloc(), &checked, &schema, codes))
+/// Whether codes of values are taken.
+fn takes_codes(alloc: Global, schema: &Schema, checked: &Checked, codes: &[u128]) -> bool {
+    is_taken(judge_codes(alloc, checked, schema, codes), codes)
 }
 
-/// Codes of values are taken; one with a byte 0 before another byte is that of no text.
+/// Whether that is said of codes.
+fn refuses_codes(
+    alloc: Global,
+    schema: &Schema,
+    checked: &Checked,
+    codes: &[u128],
+    wanted: &str,
+) -> bool {
+    is_refused(alloc, judge_codes(alloc, checked, schema, codes), wanted)
+}
+
 #[test]
-fn codes_are_judged(rt: HostRuntime) -> Result<(), Fail> {
-    let params = of_codes(&rt, &[0x53464f, 300])??;
-    assert_eq!(rt; params.as_slice(), [0x53464fu128, 300].as_slice());
-    assert!(rt; of_codes(&rt, &[0x414200, 0])?.is_ok());
-    assert!(rt;
-        matches!(
-            of_codes(&rt, &[0x410042, 1 << 16])?,
-            Err(ParamFault::BadCode(0))
-        )
-    );
-    assert!(rt; matches!(of_codes(&rt, &[0, 1 << 16])?, Err(ParamFault::BadCode(1))));
-    assert!(rt; matches!(of_codes(&rt, &[0])?, Err(ParamFault::Count(2, 1))));
+fn codes_of_values_are_taken(rt: HostRuntime) -> Result<(), Fail> {
+    let schema = schema_of(rt.alloc(), FLIGHTS)?;
+    let checked = judge_query(rt.alloc(), &schema, TWO)?;
+    let found = [
+        takes_codes(rt.alloc(), &schema, &checked, &[0x53464f, 300]),
+        takes_codes(rt.alloc(), &schema, &checked, &[0x414200, 0]),
+    ];
+    assert_eq!(rt; found, [true; 2]);
     Ok(())
 }
 
-/// What is said of parameters that are words, with a blank between them.
-fn of_words(rt: &HostRuntime, text: &str) -> Result<Result<Params, ParamFault>, Fail> {
-    let schema = flights(rt)?;
+/// A code with a byte 0 before another byte is that of no text.
+#[test]
+fn codes_of_no_values_are_refused(rt: HostRuntime) -> Result<(), Fail> {
+    let schema = schema_of(rt.alloc(), FLIGHTS)?;
     let checked = judge_query(rt.alloc(), &schema, TWO)?;
-    let mut words = Vec::new(rt.alloc());
-    for word in text.split(' ') {
-        words.push(word.to_string(rt.alloc())?)?;
-    }
-    Ok(judge_words(rt.alloc(), &checked, &schema, words.as_slice()))
+    let found = [
+        refuses_codes(
+            rt.alloc(),
+            &schema,
+            &checked,
+            &[0x410042, 1 << 16],
+            "BadCode(0)",
+        ),
+        refuses_codes(rt.alloc(), &schema, &checked, &[0, 1 << 16], "BadCode(1)"),
+        refuses_codes(rt.alloc(), &schema, &checked, &[0], "Count(2, 1)"),
+    ];
+    assert_eq!(rt; found, [true; 3]);
+    Ok(())
 }
 
-/// Words of values are taken, and the first fault is told.
+/// Whether words are taken, or that is said of them.
+fn is_judged(
+    alloc: Global,
+    schema: &Schema,
+    checked: &Checked,
+    text: &str,
+    wanted: Result<&[u128], &str>,
+) -> Result<bool, ParamFault> {
+    let words = words_of(alloc, text)?;
+    let judged = judge_words(alloc, checked, schema, words.as_slice());
+    match wanted {
+        Ok(codes) => Ok(is_taken(judged, codes)),
+        Err(fault) => Ok(is_refused(alloc, judged, fault)),
+    }
+}
+
+/// Words, and the codes or what is said of them.
+const WORDS: &[(&str, Result<&[u128], &str>)] = &[
+    ("SFO 0300", Ok(&[0x53464f, 300])),
+    ("OSLO x", Err("Value(0, TooLong(4))")),
+    ("SFO x", Err("Value(1, NotANumber)")),
+];
+
+/// The first words of which something else is said.
+fn first_other_words(
+    alloc: Global,
+    schema: &Schema,
+    checked: &Checked,
+) -> Result<Option<&'static str>, ParamFault> {
+    for (text, wanted) in WORDS {
+        if !is_judged(alloc, schema, checked, text, *wanted)? {
+            return Ok(Some(text));
+        }
+    }
+    Ok(None)
+}
+
 #[test]
 fn words_are_judged(rt: HostRuntime) -> Result<(), Fail> {
-    let params = of_words(&rt, "SFO 0300")??;
-    assert_eq!(rt; params.as_slice(), [0x53464fu128, 300].as_slice());
-    let fault = of_words(&rt, "OSLO x")?;
-    assert!(rt; matches!(fault, Err(ParamFault::Value(0, ValueFault::TooLong(4)))));
-    let fault = of_words(&rt, "SFO x")?;
-    assert!(rt; matches!(fault, Err(ParamFault::Value(1, ValueFault::NotANumber))));
+    let schema = schema_of(rt.alloc(), FLIGHTS)?;
+    let checked = judge_query(rt.alloc(), &schema, TWO)?;
+    let other = first_other_words(rt.alloc(), &schema, &checked)?;
+    assert_eq!(rt; other, None);
     Ok(())
 }

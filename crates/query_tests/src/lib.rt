@@ -6,6 +6,8 @@ mod cell_texts;
 #[cfg(test)]
 mod clear_answers;
 #[cfg(test)]
+mod fixtures;
+#[cfg(test)]
 mod judging;
 #[cfg(test)]
 mod parsing;

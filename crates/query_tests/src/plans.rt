@@ -1,24 +1,26 @@
-//! Plans, slots and secrets by hand.
-ghost use Rattle.std.specs.Prelude.{◌≤◌, ◌<◌, ◌^◌, IfOk};
+//! Plans, lengths of key frames, slots and secrets by hand.
+ghost use Rattle.std.specs.Prelude.{◌≤◌, ◌<◌, ◌^◌};
 ghost use Rattle.query_reader.specs.Accepted.{IsCheckedFor};
+ghost use Rattle.query_reader.specs.Params.{AreParamsFor};
 
+use crate::fixtures::{FLIGHTS, checked_of, params_of, schema_of};
 use interval_keys::Interval;
-use private_plan::{KeySpec, Plan, PlanKind, frame_length, plan, round_secrets, slots};
-use query_reader::{Checked, check_query, params_of_words, read_query};
-use spl_values::{Schema, read_shape};
+use private_plan::{
+    KeySpec, Plan, PlanKind, SecretFault, frame_length, plan, round_secrets, slots,
+};
+use query_reader::{Checked, ParamFault, Params, QueryFault};
+use spl_values::{Schema, Shape, ShapeFault, read_shape};
 use spl_words::TreeKind::{Point, Threshold};
 use spl_words::{TreeKind, TreeSecret};
+use std::alloc::Global;
 use std::test::Fail;
 
-const FLIGHTS: &str =
-    "table flights\nrows 5\norigin TEXT(3)\ndest TEXT(3)\nmonth UINT(4)\nprice UINT(16)\n";
-
-const DIGITS: &str = "table t\nrows 1\na UINT(4)\nb UINT(4)\n";
+const DIGITS: &[u8] = b"table t\nrows 1\na UINT(4)\nb UINT(4)\n";
 
 const TWICE: &str =
     "SELECT COUNT(*) FROM t WHERE (a = ? AND b BETWEEN ? AND ? OR a = ? AND b BETWEEN ? AND ?)";
 
-const PEOPLE: &str = "table p\nrows 1\nx UINT(32)\n";
+const PEOPLE: &[u8] = b"table p\nrows 1\nx UINT(32)\n";
 
 const SUMS: &str =
     "SELECT COUNT(*), SUM(price), AVG(price) FROM flights WHERE origin = ? AND dest = ? AND price BETWEEN ? AND ?";
@@ -31,72 +33,116 @@ const GREATEST: &str = "SELECT MAX(price) FROM flights WHERE price BETWEEN ? AND
 
 const WIDE: &str = "SELECT MAX(x) FROM p WHERE x BETWEEN ? AND ?";
 
-fn checked_of(rt: &HostRuntime, schema: &Schema, text: &str) -> Result<Checked, Fail>
-    ensures { IfOk result (λ checked. IsCheckedFor checked schema.now) }
-{
-    let query = read_query(rt.alloc(), text)?;
-    Ok(check_query(rt.alloc(), &query, schema)?)
+fn plan_of(alloc: Global, shape: &Shape, query: &str) -> Result<Plan, QueryFault> {
+    let checked = checked_of(alloc, &shape.schema, query)?;
+    Ok(plan(alloc, &checked, shape)?)
 }
 
-fn plan_of(rt: &HostRuntime, shape: &str, query: &str) -> Result<Plan, Fail> {
-    let shape = read_shape(rt.alloc(), shape.as_bytes())?;
-    let checked = checked_of(rt, &shape.schema, query)?;
-    Ok(plan(rt.alloc(), &checked, &shape)?)
+/// A query, its plan's kind, and for each round how many trees there are, and how many words come back.
+#[derive(Clone, Copy)]
+struct PlanCase {
+    query: &'static str,
+    kind: PlanKind,
+    first: (usize, u32),
+    second: (usize, u32),
 }
 
-fn words_of(rt: &HostRuntime, text: &str) -> Result<Vec<String>, Fail> {
-    let mut words = Vec::new(rt.alloc());
-    for word in text.split(' ') {
-        words.push(word.to_string(rt.alloc())?)?;
+fn is_plan(plan: &Plan, case: &PlanCase) -> bool {
+    let first = (plan.first.as_slice().len(), plan.first_words);
+    let second = (plan.second.as_slice().len(), plan.second_words);
+    plan.kind == case.kind && first == case.first && second == case.second
+}
+
+/// The query of the first case whose plan is another.
+fn first_other_plan(alloc: Global, shape: &Shape, cases: &[PlanCase]) -> Option<&'static str> {
+    for case in cases {
+        let holds = match plan_of(alloc, shape, case.query) {
+            Ok(plan) => is_plan(&plan, case),
+            Err(_) => false,
+        };
+        if !holds {
+            return Some(case.query);
+        }
     }
-    Ok(words)
+    None
 }
 
-/// Which kind, how many trees in each round, and how many words come back.
+const FLIGHT_PLANS: &[PlanCase] = &[
+    PlanCase {
+        query: SUMS,
+        kind: PlanKind::Sum,
+        first: (2, 3),
+        second: (0, 0),
+    },
+    PlanCase {
+        query: EITHER,
+        kind: PlanKind::Sum,
+        first: (2, 1),
+        second: (0, 0),
+    },
+    PlanCase {
+        query: GREATEST,
+        kind: PlanKind::Aligned,
+        first: (32, 64),
+        second: (0, 0),
+    },
+];
+
 #[test]
-fn plans_of_queries(rt: HostRuntime) -> Result<(), Fail> {
-    for (shape, query, kind, first, second) in [
-        (FLIGHTS, SUMS, PlanKind::Sum, (2, 3), (0, 0)),
-        (FLIGHTS, EITHER, PlanKind::Sum, (2, 1), (0, 0)),
-        (FLIGHTS, GREATEST, PlanKind::Aligned, (32, 64), (0, 0)),
-        (PEOPLE, WIDE, PlanKind::Position, (2, 2), (2, 4)),
-        (
-            PEOPLE,
-            "SELECT MIN(x) FROM p WHERE x = ?",
-            PlanKind::Point,
-            (1, 2),
-            (0, 0),
-        ),
-    ] {
-        let plan = plan_of(&rt, shape, query)?;
-        assert_eq!(rt; plan.kind, kind, "{query}");
-        let trees = plan.first.as_slice().len();
-        assert_eq!(rt; (trees, plan.first_words), first, "{query}");
-        let trees = plan.second.as_slice().len();
-        assert_eq!(rt; (trees, plan.second_words), second, "{query}");
-    }
+fn plans_over_flights(rt: HostRuntime) -> Result<(), ShapeFault> {
+    let shape = read_shape(rt.alloc(), FLIGHTS)?;
+    assert_eq!(rt; first_other_plan(rt.alloc(), &shape, FLIGHT_PLANS), None);
     Ok(())
 }
 
-/// The trees of a range over a narrow column: for each level two, each level a bit less deep.
+const PEOPLE_PLANS: &[PlanCase] = &[
+    PlanCase {
+        query: WIDE,
+        kind: PlanKind::Position,
+        first: (2, 2),
+        second: (2, 4),
+    },
+    PlanCase {
+        query: "SELECT MIN(x) FROM p WHERE x = ?",
+        kind: PlanKind::Point,
+        first: (1, 2),
+        second: (0, 0),
+    },
+];
+
 #[test]
-fn trees_of_levels(rt: HostRuntime) -> Result<(), Fail> {
-    let plan = plan_of(&rt, FLIGHTS, GREATEST)?;
-    let mut depth = 16;
-    for pair in plan.first.as_slice().chunks(2) {
+fn plans_over_a_wide_column(rt: HostRuntime) -> Result<(), ShapeFault> {
+    let shape = read_shape(rt.alloc(), PEOPLE)?;
+    assert_eq!(rt; first_other_plan(rt.alloc(), &shape, PEOPLE_PLANS), None);
+    Ok(())
+}
+
+/// Whether the trees are pairs of point trees, the first of so many bits, each pair a bit less deep, the last of one.
+fn are_levels(trees: &[KeySpec], bits: u32) -> bool {
+    let mut depth = bits;
+    let mut paired = true;
+    for pair in trees.chunks(2) {
         let tree = KeySpec {
             kind: TreeKind::Point,
             depth,
         };
-        assert_eq!(rt; pair, &[tree, tree][..]);
+        paired = paired && pair == [tree, tree].as_slice();
         depth = depth.saturating_sub(1);
     }
-    assert_eq!(rt; depth, 0);
+    paired && depth == 0
+}
+
+/// A range over a narrow column has two trees for each level.
+#[test]
+fn trees_of_levels(rt: HostRuntime) -> Result<(), Fail> {
+    let shape = read_shape(rt.alloc(), FLIGHTS)?;
+    let plan = plan_of(rt.alloc(), &shape, GREATEST)?;
+    assert!(rt; are_levels(plan.first.as_slice(), 16));
     Ok(())
 }
 
 /// The length of a round's key frame, where the plan is one that has a frame.
-fn length_of(plan: &Plan, round: u32, query: &str, shape: &str) -> Option<u64> {
+fn length_of(plan: &Plan, round: u32, query: &str, shape: &[u8]) -> Option<u64> {
     let trees = if round == 2 {
         plan.second.as_slice()
     } else {
@@ -109,108 +155,172 @@ fn length_of(plan: &Plan, round: u32, query: &str, shape: &str) -> Option<u64> {
     Some(frame_length(plan, round, query.len() as u64, shape.len() as u64))
 }
 
+/// The length of a round's key frame of a query over a shape.
+fn query_length(alloc: Global, text: &[u8], query: &str, round: u32) -> Result<Option<u64>, Fail> {
+    let shape = read_shape(alloc, text)?;
+    let plan = plan_of(alloc, &shape, query)?;
+    Ok(length_of(&plan, round, query, text))
+}
+
 #[test]
-fn lengths_of_frames(rt: HostRuntime) -> Result<(), Fail> {
-    for (shape, query, round, length) in [
-        (FLIGHTS, SUMS, 1, 4523),
-        (FLIGHTS, GREATEST, 1, 5653),
-        (PEOPLE, WIDE, 1, 2295),
-        (PEOPLE, WIDE, 2, 217),
-    ] {
-        let plan = plan_of(&rt, shape, query)?;
-        assert_eq!(rt;
-            length_of(&plan, round, query, shape),
-            Some(length),
-            "{query}"
-        );
-    }
+fn lengths_of_frames_over_flights(rt: HostRuntime) -> Result<(), Fail> {
+    let sums = query_length(rt.alloc(), FLIGHTS, SUMS, 1)?;
+    let greatest = query_length(rt.alloc(), FLIGHTS, GREATEST, 1)?;
+    assert_eq!(rt; [sums, greatest], [Some(4523), Some(5653)]);
     Ok(())
 }
 
-/// The slots of a query, as their ends.
-fn slots_in(
-    rt: &HostRuntime,
+#[test]
+fn lengths_of_frames_of_two_rounds(rt: HostRuntime) -> Result<(), Fail> {
+    let first = query_length(rt.alloc(), PEOPLE, WIDE, 1)?;
+    let second = query_length(rt.alloc(), PEOPLE, WIDE, 2)?;
+    assert_eq!(rt; [first, second], [Some(2295), Some(217)]);
+    Ok(())
+}
+
+/// The lowest and the greatest number of a slot.
+type Ends = Option<(u128, u128)>;
+
+/// A query, its parameters, and the ends of its slots.
+#[derive(Clone, Copy)]
+struct SlotCase {
+    query: &'static str,
+    params: &'static str,
+    ends: &'static [Ends],
+}
+
+fn ends_of(slot: &Option<Interval>) -> Ends {
+    slot.map(|Interval { lo, hi }| (lo, hi))
+}
+
+/// Whether the slots have these ends, one after the other.
+fn have_ends(slots: &[Option<Interval>], ends: &[Ends]) -> bool {
+    let mut same = slots.len() == ends.len();
+    for (slot, ends) in slots.iter().zip(ends) {
+        same = same && ends_of(slot) == *ends;
+    }
+    same
+}
+
+/// Whether an accepted query has the case's slots.
+fn has_slots(
+    alloc: Global,
     schema: &Schema,
-    query: &str,
-    params: &str,
-) -> Result<Vec<Option<(u128, u128)>>, Fail> {
-    let checked = checked_of(rt, schema, query)?;
-    let words = words_of(rt, params)?;
-    let params = params_of_words(rt.alloc(), &checked, schema, words.as_slice())?;
-    let mut ends = Vec::new(rt.alloc());
-    for slot in slots(&checked, schema, &params).as_slice() {
-        ends.push(slot.map(|Interval { lo, hi }| (lo, hi)))?;
-    }
-    Ok(ends)
+    checked: &Checked,
+    case: &SlotCase,
+) -> Result<bool, ParamFault>
+    requires { IsCheckedFor checked.now schema.now }
+{
+    let params = params_of(alloc, checked, schema, case.params)?;
+    Ok(have_ends(slots(checked, schema, &params).as_slice(), case.ends))
 }
 
-#[test]
-fn slots_of_branches(rt: HostRuntime) -> Result<(), Fail> {
-    let sfo = 0x53464f;
-    let shape = read_shape(rt.alloc(), FLIGHTS.as_bytes())?;
-    for (query, params, ends) in [
-        (
-            SUMS,
-            "SFO JFK 300 500",
-            &[Some((0x5346_4f4a_464b_012c, 0x5346_4f4a_464b_01f4))][..],
-        ),
-        (SUMS, "SFO JFK 500 300", &[None][..]),
-        (EITHER, "SFO SFO", &[Some((sfo, sfo)), None][..]),
-        (
-            EITHER,
-            "SFO LAX",
-            &[Some((0x4c4158, 0x4c4158)), Some((sfo, sfo))][..],
-        ),
-    ] {
-        assert_eq!(rt;
-            slots_in(&rt, &shape.schema, query, params)?.as_slice(),
-            ends,
-            "{query} {params}"
-        );
+/// The parameters of the first case whose slots are others.
+fn first_other_slots(alloc: Global, schema: &Schema, cases: &[SlotCase]) -> Option<&'static str> {
+    for case in cases {
+        let holds = match checked_of(alloc, schema, case.query) {
+            Ok(checked) => matches!(has_slots(alloc, schema, &checked, case), Ok(true)),
+            Err(_) => false,
+        };
+        if !holds {
+            return Some(case.params);
+        }
     }
+    None
+}
+
+/// The codes of two texts of a column.
+const SFO: u128 = 0x53464f;
+
+const LAX: u128 = 0x4c4158;
+
+const FLIGHT_SLOTS: &[SlotCase] = &[
+    SlotCase {
+        query: SUMS,
+        params: "SFO JFK 300 500",
+        ends: &[Some((0x5346_4f4a_464b_012c, 0x5346_4f4a_464b_01f4))],
+    },
+    SlotCase {
+        query: SUMS,
+        params: "SFO JFK 500 300",
+        ends: &[None],
+    },
+    SlotCase {
+        query: EITHER,
+        params: "SFO SFO",
+        ends: &[Some((SFO, SFO)), None],
+    },
+    SlotCase {
+        query: EITHER,
+        params: "SFO LAX",
+        ends: &[Some((LAX, LAX)), Some((SFO, SFO))],
+    },
+];
+
+#[test]
+fn slots_of_branches(rt: HostRuntime) -> Result<(), ShapeFault> {
+    let schema = schema_of(rt.alloc(), FLIGHTS)?;
+    assert_eq!(rt; first_other_slots(rt.alloc(), &schema, FLIGHT_SLOTS), None);
     Ok(())
 }
 
-/// Slots over two columns of four bits: what overlaps becomes one, and what lies in two values of the
-/// first column stays two, even where the ends are adjacent.
+/// What overlaps becomes one, and what lies in two values of the first column stays two, even where the ends are
+/// adjacent.
+const DIGIT_SLOTS: &[SlotCase] = &[
+    SlotCase {
+        query: TWICE,
+        params: "1 2 9 1 5 12",
+        ends: &[Some((0x12, 0x1c)), None],
+    },
+    SlotCase {
+        query: TWICE,
+        params: "1 0 15 2 0 3",
+        ends: &[Some((0x10, 0x1f)), Some((0x20, 0x23))],
+    },
+];
+
 #[test]
-fn slots_over_two_columns(rt: HostRuntime) -> Result<(), Fail> {
-    let shape = read_shape(rt.alloc(), DIGITS.as_bytes())?;
-    for (params, ends) in [
-        ("1 2 9 1 5 12", &[Some((0x12, 0x1c)), None][..]),
-        (
-            "1 0 15 2 0 3",
-            &[Some((0x10, 0x1f)), Some((0x20, 0x23))][..],
-        ),
-    ] {
-        assert_eq!(rt;
-            slots_in(&rt, &shape.schema, TWICE, params)?.as_slice(),
-            ends,
-            "{params}"
-        );
-    }
+fn slots_over_two_columns(rt: HostRuntime) -> Result<(), ShapeFault> {
+    let schema = schema_of(rt.alloc(), DIGITS)?;
+    assert_eq!(rt; first_other_slots(rt.alloc(), &schema, DIGIT_SLOTS), None);
     Ok(())
 }
 
-/// Whether these are the secrets of a sum's query over the flights.
-fn has_secrets(
-    rt: &HostRuntime,
-    query: &str,
-    params: &str,
+/// Whether these are the secrets of an accepted query, where it is a sum's.
+fn are_secrets(
+    alloc: Global,
+    shape: &Shape,
+    checked: &Checked,
+    params: &Params,
     secrets: &[TreeSecret],
-) -> Result<bool, Fail> {
-    let shape = read_shape(rt.alloc(), FLIGHTS.as_bytes())?;
-    let checked = checked_of(rt, &shape.schema, query)?;
-    let words = words_of(rt, params)?;
-    let params = params_of_words(rt.alloc(), &checked, &shape.schema, words.as_slice())?;
-    let plan = plan(rt.alloc(), &checked, &shape)?;
+) -> Result<bool, SecretFault>
+    requires checked { IsCheckedFor checked.now shape.now.schema }
+    requires params { AreParamsFor checked.now shape.now.schema params.now }
+{
+    let plan = plan(alloc, checked, shape)?;
     match plan.kind {
         PlanKind::Sum => {
-            let found = round_secrets(rt.alloc(), &plan, &checked, &shape, &params, 1, &[])?;
+            let found = round_secrets(alloc, &plan, checked, shape, params, 1, &[])?;
             Ok(found.as_slice() == secrets)
         }
         _ => Ok(false),
     }
+}
+
+/// The same of a query over the flights.
+fn has_secrets(
+    alloc: Global,
+    query: &str,
+    params: &str,
+    secrets: &[TreeSecret],
+) -> Result<bool, Fail> {
+    let shape = read_shape(alloc, FLIGHTS)?;
+    let checked = checked_of(alloc, &shape.schema, query)?;
+    let params = params_of(alloc, &checked, &shape.schema, params)?;
+    Ok(matches!(
+        are_secrets(alloc, &shape, &checked, &params, secrets),
+        Ok(true)
+    ))
 }
 
 /// A secret of a tree of so many bits.
@@ -228,46 +338,41 @@ fn secret(kind: TreeKind, depth: u32, alpha: u128, beta: u64) -> TreeSecret
 }
 
 #[test]
-fn secrets_of_rounds(rt: HostRuntime) -> Result<(), Fail> {
-    assert!(rt;
-        has_secrets(
-            &rt,
-            SUMS,
-            "SFO JFK 300 500",
-            &[
-                secret(Threshold, 64, 0x5346_4f4a_464b_01f4, 1),
-                secret(Threshold, 64, 0x5346_4f4a_464b_012b, u64::MAX),
-            ],
-        )?
-    );
-    // below the lowest price of these two texts there are keys of other texts
-    assert!(rt;
-        has_secrets(
-            &rt,
-            SUMS,
-            "SFO JFK 0 500",
-            &[
-                secret(Threshold, 64, 0x5346_4f4a_464b_01f4, 1),
-                secret(Threshold, 64, 0x5346_4f4a_464a_ffff, u64::MAX),
-            ],
-        )?
-    );
-    // below 0 there is no key
-    assert!(rt;
-        has_secrets(
-            &rt,
-            PRICES,
-            "0 500",
-            &[secret(Threshold, 16, 500, 1), secret(Threshold, 16, 0, 0)],
-        )?
-    );
-    assert!(rt;
-        has_secrets(
-            &rt,
-            EITHER,
-            "SFO SFO",
-            &[secret(Point, 24, 0x53464f, 1), secret(Point, 24, 0, 0)],
-        )?
-    );
+fn secrets_of_a_range(rt: HostRuntime) -> Result<(), Fail> {
+    let wanted = [
+        secret(Threshold, 64, 0x5346_4f4a_464b_01f4, 1),
+        secret(Threshold, 64, 0x5346_4f4a_464b_012b, u64::MAX),
+    ];
+    let found = has_secrets(rt.alloc(), SUMS, "SFO JFK 300 500", &wanted)?;
+    assert!(rt; found);
+    Ok(())
+}
+
+/// Below the lowest price of these two texts there are keys of other texts.
+#[test]
+fn secrets_of_a_range_from_the_lowest_price(rt: HostRuntime) -> Result<(), Fail> {
+    let wanted = [
+        secret(Threshold, 64, 0x5346_4f4a_464b_01f4, 1),
+        secret(Threshold, 64, 0x5346_4f4a_464a_ffff, u64::MAX),
+    ];
+    let found = has_secrets(rt.alloc(), SUMS, "SFO JFK 0 500", &wanted)?;
+    assert!(rt; found);
+    Ok(())
+}
+
+/// Below 0 there is no key.
+#[test]
+fn secrets_of_a_range_from_zero(rt: HostRuntime) -> Result<(), Fail> {
+    let wanted = [secret(Threshold, 16, 500, 1), secret(Threshold, 16, 0, 0)];
+    let found = has_secrets(rt.alloc(), PRICES, "0 500", &wanted)?;
+    assert!(rt; found);
+    Ok(())
+}
+
+#[test]
+fn secrets_of_one_text_twice(rt: HostRuntime) -> Result<(), Fail> {
+    let wanted = [secret(Point, 24, 0x53464f, 1), secret(Point, 24, 0, 0)];
+    let found = has_secrets(rt.alloc(), EITHER, "SFO SFO", &wanted)?;
+    assert!(rt; found);
     Ok(())
 }

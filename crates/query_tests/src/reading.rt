@@ -1,105 +1,137 @@
+//! Queries over a schema are accepted with what is known of them, or refused for the first reason, and parameters are
+//! taken as words or as codes.
+use crate::fixtures::{FLIGHTS, checked_of, is_refused, is_taken, is_told, params_of, schema_of};
 use cell_merge::CellItem;
-use query_reader::{
-    Checked, ParamFault, Params, QueryFault, check_query, params_of_codes, params_of_words,
-    read_query,
-};
-use spl_values::{Schema, Shape, ValueFault, read_shape};
+use query_reader::{Checked, params_of_codes};
+use spl_values::{Schema, ShapeFault};
+use std::alloc::{AllocError, Global};
 use std::test::Fail;
 
 const SHAPE: &[u8] =
     b"table t\nrows 0\na UINT(4)\nv UINT(8)\nw UINT(64)\ns TEXT(3)\nx TEXT(16)\nk ENUM(red|green|blue)\n";
 
-const FLIGHTS: &[u8] =
-    b"table flights\nrows 5\norigin TEXT(3)\ndest TEXT(3)\nmonth UINT(4)\nprice UINT(16)\n";
+/// A query, and what is said of it.
+type QueryCase = (&'static str, &'static str);
 
-fn schema(rt: &HostRuntime, text: &[u8]) -> Result<Schema, Fail> {
-    let Shape { schema, .. } = read_shape(rt.alloc(), text)?;
-    Ok(schema)
-}
-
-fn checked(rt: &HostRuntime, schema: &Schema, text: &str) -> Result<Checked, Fail> {
-    let query = read_query(rt.alloc(), text)?;
-    Ok(check_query(rt.alloc(), &query, schema)?)
-}
-
-/// What is said of a query whose text begins with SELECT.
-fn said(rt: &HostRuntime, schema: &Schema, text: &str) -> Result<String, Fail> {
-    let text = format!(in rt.alloc(); "SELECT {text}")?;
-    let query = read_query(rt.alloc(), text.as_str())?;
-    match check_query(rt.alloc(), &query, schema) {
-        Ok(_) => Ok("accepted".to_string(rt.alloc())?),
-        Err(fault) => Ok(format!(in rt.alloc(); "{fault:?}")?),
+/// The first query of which something else is said.
+fn first_other(alloc: Global, schema: &Schema, cases: &[QueryCase]) -> Option<&'static str> {
+    for (text, wanted) in cases {
+        if !is_told(alloc, checked_of(alloc, schema, text), wanted) {
+            return Some(text);
+        }
     }
+    None
 }
 
 /// Names that are no columns, and columns whose type their place doesn't take, the first of them.
+const NAMES: &[QueryCase] = &[
+    (
+        "SELECT MAX(s), SUM(b) FROM t WHERE c = ?",
+        "NoColumn(Name { text: \"b\" })",
+    ),
+    (
+        "SELECT MAX(x), SUM(s) FROM t WHERE a = ?",
+        "WrongType(Name { text: \"x\" })",
+    ),
+    (
+        "SELECT AVG(k) FROM t WHERE a = ?",
+        "WrongType(Name { text: \"k\" })",
+    ),
+    (
+        "SELECT SUM(v) FROM t WHERE a = 16",
+        "WrongType(Name { text: \"a\" })",
+    ),
+    (
+        "SELECT SUM(v) FROM t WHERE s = 5 AND v = ?",
+        "WrongType(Name { text: \"s\" })",
+    ),
+    (
+        "SELECT SUM(v) FROM t WHERE s = 'SFOX'",
+        "WrongType(Name { text: \"s\" })",
+    ),
+    (
+        "SELECT SUM(v) FROM t WHERE k = 'pink'",
+        "WrongType(Name { text: \"k\" })",
+    ),
+    (
+        "SELECT COUNT(*) FROM t GROUP BY v",
+        "WrongType(Name { text: \"v\" })",
+    ),
+    (
+        "SELECT COUNT(*) FROM t WHERE x BETWEEN 'a' AND 5",
+        "WrongType(Name { text: \"x\" })",
+    ),
+];
+
 #[test]
-fn refusals_of_names(rt: HostRuntime) -> Result<(), Fail> {
-    let schema = schema(&rt, SHAPE)?;
-    let cases: [(&str, &str, &str); 9] = [
-        ("MAX(s), SUM(b) FROM t WHERE c = ?", "NoColumn", "b"),
-        ("MAX(x), SUM(s) FROM t WHERE a = ?", "WrongType", "x"),
-        ("AVG(k) FROM t WHERE a = ?", "WrongType", "k"),
-        ("SUM(v) FROM t WHERE a = 16", "WrongType", "a"),
-        ("SUM(v) FROM t WHERE s = 5 AND v = ?", "WrongType", "s"),
-        ("SUM(v) FROM t WHERE s = 'SFOX'", "WrongType", "s"),
-        ("SUM(v) FROM t WHERE k = 'pink'", "WrongType", "k"),
-        ("COUNT(*) FROM t GROUP BY v", "WrongType", "v"),
-        (
-            "COUNT(*) FROM t WHERE x BETWEEN 'a' AND 5",
-            "WrongType",
-            "x",
-        ),
-    ];
-    for (text, fault, name) in cases {
-        let told = format!(in rt.alloc(); "{fault}(Name {{ text: {name:?} }})")?;
-        assert_eq!(rt; said(&rt, &schema, text)?.as_str(), told.as_str());
-    }
+fn refusals_of_names(rt: HostRuntime) -> Result<(), ShapeFault> {
+    let schema = schema_of(rt.alloc(), SHAPE)?;
+    assert_eq!(rt; first_other(rt.alloc(), &schema, NAMES), None);
     Ok(())
 }
 
 /// Each refusal before those that stand behind it.
+const ORDER: &[QueryCase] = &[
+    ("SELECT COUNT(*) FROM u WHERE b = ?", "NoTable"),
+    ("SELECT TOPK(0, v, a) FROM t WHERE a = 3", "NoSecret"),
+    (
+        "SELECT SUM(v) FROM t WHERE x = ? AND a = ? OR x = ?",
+        "BranchesDiffer(1)",
+    ),
+    (
+        "SELECT SUM(v) FROM t WHERE a = ? OR a BETWEEN ? AND ?",
+        "BranchesDiffer(1)",
+    ),
+    (
+        "SELECT TOPK(0, v, a) FROM t WHERE x = ? AND a = ?",
+        "TooWide(132)",
+    ),
+    (
+        "SELECT MAX(w), MIN(k) FROM t WHERE x BETWEEN ? AND ?",
+        "128 bits",
+    ),
+    ("SELECT TOPK(0, v, a) FROM t WHERE a = ?", "BadTopk"),
+    ("SELECT TOPK(33, v, a) FROM t WHERE a = ?", "BadTopk"),
+    ("SELECT TOPK(32, v, a) FROM t WHERE a = ?", "4 bits"),
+    (
+        "SELECT TOPK(1, v, a), COUNT(*) FROM t WHERE a = ?",
+        "BadTopk",
+    ),
+    (
+        "SELECT TOPK(1, v, a) FROM t WHERE a = ? GROUP BY k",
+        "BadTopk",
+    ),
+    (
+        "SELECT SUM(v) FROM t WHERE k BETWEEN 'blue' AND 'red' AND a = ?",
+        "4 bits",
+    ),
+];
+
 #[test]
-fn refusals_in_order(rt: HostRuntime) -> Result<(), Fail> {
-    let schema = schema(&rt, SHAPE)?;
-    let cases: [(&str, &str); 12] = [
-        ("COUNT(*) FROM u WHERE b = ?", "NoTable"),
-        ("TOPK(0, v, a) FROM t WHERE a = 3", "NoSecret"),
-        (
-            "SUM(v) FROM t WHERE x = ? AND a = ? OR x = ?",
-            "BranchesDiffer(1)",
-        ),
-        (
-            "SUM(v) FROM t WHERE a = ? OR a BETWEEN ? AND ?",
-            "BranchesDiffer(1)",
-        ),
-        ("TOPK(0, v, a) FROM t WHERE x = ? AND a = ?", "TooWide(132)"),
-        ("MAX(w), MIN(k) FROM t WHERE x BETWEEN ? AND ?", "accepted"),
-        ("TOPK(0, v, a) FROM t WHERE a = ?", "BadTopk"),
-        ("TOPK(33, v, a) FROM t WHERE a = ?", "BadTopk"),
-        ("TOPK(32, v, a) FROM t WHERE a = ?", "accepted"),
-        ("TOPK(1, v, a), COUNT(*) FROM t WHERE a = ?", "BadTopk"),
-        ("TOPK(1, v, a) FROM t WHERE a = ? GROUP BY k", "BadTopk"),
-        (
-            "SUM(v) FROM t WHERE k BETWEEN 'blue' AND 'red' AND a = ?",
-            "accepted",
-        ),
-    ];
-    for (text, answer) in cases {
-        assert_eq!(rt; said(&rt, &schema, text)?.as_str(), answer, "{text}");
-    }
+fn refusals_in_order(rt: HostRuntime) -> Result<(), ShapeFault> {
+    let schema = schema_of(rt.alloc(), SHAPE)?;
+    assert_eq!(rt; first_other(rt.alloc(), &schema, ORDER), None);
     Ok(())
 }
 
-/// A text with a piece so often between a front and an end.
+/// A text with a piece so often between a front and an end, and what is said of it.
+#[derive(Clone, Copy)]
+struct LongCase {
+    front: &'static str,
+    piece: &'static str,
+    times: usize,
+    end: &'static str,
+    wanted: &'static str,
+}
+
 fn repeated(
-    rt: &HostRuntime,
+    alloc: Global,
     front: &str,
     piece: &str,
     times: usize,
     end: &str,
-) -> Result<String, Fail> {
-    let mut text = front.to_string(rt.alloc())?;
+) -> Result<String, AllocError> {
+    let mut text = String::from_str(alloc, front)?;
     for _ in 0..times {
         text.push_str(piece)?;
     }
@@ -107,54 +139,112 @@ fn repeated(
     Ok(text)
 }
 
-/// The refusals of long queries.
-#[test]
-fn refusals_of_size(rt: HostRuntime) -> Result<(), Fail> {
-    let schema = schema(&rt, SHAPE)?;
-    let counted = "COUNT(*) FROM t WHERE ";
-    let grouped = "COUNT(*) FROM t WHERE a = ? GROUP BY k";
-    let cases: [(&str, &str, usize, &str, &str); 6] = [
-        (counted, "a = ? OR ", 7, "a = ?", "accepted"),
-        (counted, "a = ? OR ", 8, "a = ?", "TooManyBranches(9)"),
-        ("", "SUM(v), ", 41, grouped, "accepted"),
-        ("", "SUM(v), ", 42, grouped, "CellsTooWide(129)"),
-        (counted, "a = 1 AND ", 406, "a = ?", "accepted"),
-        (counted, "a = 1 AND ", 407, "a = ?", "TooLong(4104)"),
-    ];
-    for (front, piece, times, end, answer) in cases {
-        let text = repeated(&rt, front, piece, times, end)?;
-        assert_eq!(rt; said(&rt, &schema, text.as_str())?.as_str(), answer);
+/// Whether that is said of the case's text.
+fn holds(alloc: Global, schema: &Schema, case: &LongCase) -> Result<bool, AllocError> {
+    let text = repeated(alloc, case.front, case.piece, case.times, case.end)?;
+    let judged = checked_of(alloc, schema, text.as_str());
+    Ok(is_told(alloc, judged, case.wanted))
+}
+
+const COUNTED: &str = "SELECT COUNT(*) FROM t WHERE ";
+
+const GROUPED: &str = "COUNT(*) FROM t WHERE a = ? GROUP BY k";
+
+const SIZES: &[LongCase] = &[
+    LongCase {
+        front: COUNTED,
+        piece: "a = ? OR ",
+        times: 7,
+        end: "a = ?",
+        wanted: "4 bits",
+    },
+    LongCase {
+        front: COUNTED,
+        piece: "a = ? OR ",
+        times: 8,
+        end: "a = ?",
+        wanted: "TooManyBranches(9)",
+    },
+    LongCase {
+        front: "SELECT ",
+        piece: "SUM(v), ",
+        times: 41,
+        end: GROUPED,
+        wanted: "4 bits",
+    },
+    LongCase {
+        front: "SELECT ",
+        piece: "SUM(v), ",
+        times: 42,
+        end: GROUPED,
+        wanted: "CellsTooWide(129)",
+    },
+    LongCase {
+        front: COUNTED,
+        piece: "a = 1 AND ",
+        times: 406,
+        end: "a = ?",
+        wanted: "4 bits",
+    },
+    LongCase {
+        front: COUNTED,
+        piece: "a = 1 AND ",
+        times: 407,
+        end: "a = ?",
+        wanted: "TooLong(4104)",
+    },
+];
+
+/// The first long query of which something else is said.
+fn first_other_size(alloc: Global, schema: &Schema) -> Option<usize> {
+    for (at, case) in SIZES.iter().enumerate() {
+        if holds(alloc, schema, case) != Ok(true) {
+            return Some(at);
+        }
     }
+    None
+}
+
+#[test]
+fn refusals_of_size(rt: HostRuntime) -> Result<(), ShapeFault> {
+    let schema = schema_of(rt.alloc(), SHAPE)?;
+    assert_eq!(rt; first_other_size(rt.alloc(), &schema), None);
     Ok(())
 }
 
-/// What is known of an accepted query of one branch.
+/// Whether a query has one branch of three columns, of which the last has a range.
+fn is_of_one_branch(checked: &Checked) -> bool {
+    let items = [CellItem::Count, CellItem::Sum(3), CellItem::Avg(3)];
+    let columns = checked.columns.as_slice() == [0u32, 1, 3].as_slice() && checked.range;
+    let sizes = checked.branches == 1 && checked.bits == 64;
+    let public = checked.public.as_slice().is_empty();
+    columns && sizes && public && checked.spec.items.as_slice() == items.as_slice()
+}
+
 #[test]
 fn a_query_of_one_branch(rt: HostRuntime) -> Result<(), Fail> {
-    let schema = schema(&rt, FLIGHTS)?;
+    let schema = schema_of(rt.alloc(), FLIGHTS)?;
     let text =
         "SELECT COUNT(*), SUM(price), AVG(price) FROM flights WHERE origin = ? AND dest = ? AND price BETWEEN ? AND ?";
-    let checked = checked(&rt, &schema, text)?;
-    let items = [CellItem::Count, CellItem::Sum(3), CellItem::Avg(3)];
-    assert_eq!(rt; checked.columns.as_slice(), [0u32, 1, 3].as_slice());
-    assert_eq!(rt; checked.spec.items.as_slice(), items.as_slice());
-    assert_eq!(rt; checked.public.as_slice().len(), 0);
-    assert!(rt; checked.range);
-    assert_eq!(rt; (checked.branches, checked.bits), (1, 64));
+    let checked = checked_of(rt.alloc(), &schema, text)?;
+    assert!(rt; is_of_one_branch(&checked));
     Ok(())
 }
 
-/// What is known of an accepted query with public conditions.
+/// Whether a query has two branches of one column, behind a range of months and a destination.
+fn is_of_two_branches(checked: &Checked) -> bool {
+    let bounds = [(2u32, 3u128, 4u128), (1, 0x4a464b, 0x4a464b)];
+    let sizes = checked.branches == 2 && checked.bits == 24;
+    sizes && !checked.range && checked.public.as_slice() == bounds.as_slice()
+}
+
 #[test]
 fn a_query_with_public_conditions(rt: HostRuntime) -> Result<(), Fail> {
-    let schema = schema(&rt, FLIGHTS)?;
+    let schema = schema_of(rt.alloc(), FLIGHTS)?;
     let text =
         "SELECT MAX(price) FROM flights WHERE month BETWEEN 3 AND 4 AND (origin = ? OR origin = ?) AND dest = 'JFK'";
-    let checked = checked(&rt, &schema, text)?;
-    let bounds = [(2u32, 3u128, 4u128), (1, 0x4a464b, 0x4a464b)];
-    assert_eq!(rt; checked.public.as_slice(), bounds.as_slice());
-    assert!(rt; !checked.range);
-    assert_eq!(rt; (checked.branches, checked.bits), (2, 24));
+    let checked = checked_of(rt.alloc(), &schema, text)?;
+    assert!(rt; is_of_two_branches(&checked));
     Ok(())
 }
 
@@ -162,83 +252,71 @@ fn a_query_with_public_conditions(rt: HostRuntime) -> Result<(), Fail> {
 const FOUR: &str =
     "SELECT COUNT(*) FROM flights WHERE origin = ? AND dest = ? AND price BETWEEN ? AND ?";
 
-/// What is said of parameters that are words, with blanks between them.
-fn of_words(rt: &HostRuntime, text: &str) -> Result<Result<Params, ParamFault>, Fail> {
-    let schema = schema(rt, FLIGHTS)?;
-    let checked = checked(rt, &schema, FOUR)?;
-    let mut words = Vec::new(rt.alloc());
-    for word in text.split(' ') {
-        words.push(word.to_string(rt.alloc())?)?;
-    }
-    Ok(params_of_words(rt.alloc(), &checked, &schema, words.as_slice()))
+/// The codes of SFO, JFK, 300 and 500.
+const CODES: &[u128] = &[5457487, 0x4a464b, 300, 500];
+
+/// Whether words are taken, and those that are too few or no values are refused.
+fn are_words(alloc: Global, schema: &Schema, checked: &Checked) -> [bool; 3] {
+    let taken = params_of(alloc, checked, schema, "SFO JFK 300 0500");
+    let few = params_of(alloc, checked, schema, "SFOX");
+    let long = params_of(alloc, checked, schema, "SFO JFKX x 500");
+    [
+        is_taken(taken, CODES),
+        is_refused(alloc, few, "Count(4, 1)"),
+        is_refused(alloc, long, "Value(1, TooLong(4))"),
+    ]
 }
 
-/// What is said of parameters that are codes.
-fn of_codes(rt: &HostRuntime, codes: &[u128]) -> Result<Result<Params, ParamFault>, Fail> {
-    let schema = schema(rt, FLIGHTS)?;
-    let checked = checked(rt, &schema, FOUR)?;
-    Ok(params_of_codes(rt.alloc(), &checked, &schema, codes))
-}
-
-/// Parameters as words.
 #[test]
 fn words_as_parameters(rt: HostRuntime) -> Result<(), Fail> {
-    let codes = [5457487u128, 0x4a464b, 300, 500];
-    let params = of_words(&rt, "SFO JFK 300 0500")??;
-    assert_eq!(rt; params.as_slice(), codes.as_slice());
-    assert!(rt; matches!(of_words(&rt, "SFOX")?, Err(ParamFault::Count(4, 1))));
-    assert!(rt;
-        matches!(
-            of_words(&rt, "SFO JFKX x 500")?,
-            Err(ParamFault::Value(1, ValueFault::TooLong(4)))
-        )
-    );
+    let schema = schema_of(rt.alloc(), FLIGHTS)?;
+    let checked = checked_of(rt.alloc(), &schema, FOUR)?;
+    assert_eq!(rt; are_words(rt.alloc(), &schema, &checked), [true; 3]);
     Ok(())
 }
 
-/// Parameters as codes.
+/// Whether codes are taken, and those that are too many or of no value are refused.
+fn are_codes(alloc: Global, schema: &Schema, checked: &Checked) -> [bool; 3] {
+    let taken = params_of_codes(alloc, checked, schema, CODES);
+    let high = params_of_codes(alloc, checked, schema, &[0, 0, 65536, 1 << 127]);
+    let many = params_of_codes(alloc, checked, schema, &[0; 5]);
+    [
+        is_taken(taken, CODES),
+        is_refused(alloc, high, "BadCode(2)"),
+        is_refused(alloc, many, "Count(4, 5)"),
+    ]
+}
+
 #[test]
 fn codes_as_parameters(rt: HostRuntime) -> Result<(), Fail> {
-    let codes = [5457487u128, 0x4a464b, 300, 500];
-    let params = of_codes(&rt, codes.as_slice())??;
-    assert_eq!(rt; params.as_slice(), codes.as_slice());
-    let high = [0u128, 0, 65536, 1 << 127];
-    assert!(rt; matches!(of_codes(&rt, high.as_slice())?, Err(ParamFault::BadCode(2))));
-    assert!(rt;
-        matches!(
-            of_codes(&rt, [0u128; 5].as_slice())?,
-            Err(ParamFault::Count(4, 5))
-        )
-    );
+    let schema = schema_of(rt.alloc(), FLIGHTS)?;
+    let checked = checked_of(rt.alloc(), &schema, FOUR)?;
+    assert_eq!(rt; are_codes(rt.alloc(), &schema, &checked), [true; 3]);
     Ok(())
 }
 
 /// A query with 256 question marks.
-fn many_marks(rt: &HostRuntime) -> Result<String, Fail> {
-    let branch = repeated(rt, "", "a = ? AND ", 31, "a = ? OR ")?;
-    let last = repeated(rt, "", "a = ? AND ", 31, "a = ?")?;
-    repeated(
-        rt,
-        "SELECT COUNT(*) FROM t WHERE ",
-        branch.as_str(),
-        7,
-        last.as_str(),
-    )
+fn many_marks(alloc: Global) -> Result<String, AllocError> {
+    let branch = repeated(alloc, "", "a = ? AND ", 31, "a = ? OR ")?;
+    let last = repeated(alloc, "", "a = ? AND ", 31, "a = ?")?;
+    repeated(alloc, COUNTED, branch.as_str(), 7, last.as_str())
 }
 
-/// What is said of so many parameters of it.
-fn of_many(rt: &HostRuntime, count: usize) -> Result<Result<Params, ParamFault>, Fail> {
-    let schema = schema(rt, b"table t\nrows 0\na UINT(1)\n")?;
-    let text = many_marks(rt)?;
-    let checked = checked(rt, &schema, text.as_str())?;
-    let codes = vec![in rt.alloc(); 0u128; count]?;
-    Ok(params_of_codes(rt.alloc(), &checked, &schema, codes.as_slice()))
+/// Whether a query with 256 question marks needs 256 parameters, and takes neither as many nor none.
+fn are_many(alloc: Global, schema: &Schema, checked: &Checked) -> [bool; 2] {
+    let many = params_of_codes(alloc, checked, schema, &[0; 256]);
+    let none = params_of_codes(alloc, checked, schema, &[]);
+    [
+        is_refused(alloc, many, "Count(256, 256)"),
+        is_refused(alloc, none, "Count(256, 0)"),
+    ]
 }
 
-/// A query with 256 question marks needs 256 parameters, and takes none.
 #[test]
 fn too_many_question_marks(rt: HostRuntime) -> Result<(), Fail> {
-    assert!(rt; matches!(of_many(&rt, 256)?, Err(ParamFault::Count(256, 256))));
-    assert!(rt; matches!(of_many(&rt, 0)?, Err(ParamFault::Count(256, 0))));
+    let schema = schema_of(rt.alloc(), b"table t\nrows 0\na UINT(1)\n".as_slice())?;
+    let text = many_marks(rt.alloc())?;
+    let checked = checked_of(rt.alloc(), &schema, text.as_str())?;
+    assert_eq!(rt; are_many(rt.alloc(), &schema, &checked), [true; 2]);
     Ok(())
 }

@@ -1,66 +1,102 @@
+//! Tokens begin at their places, the last of which may form none, and are written with blanks between them.
 use query_grammar::{Aggregate, Symbol, Token};
 use query_tokens::{Printer, tokens};
 use spl_values::{Bytes, Name};
+use std::alloc::{AllocError, Global};
 use std::test::Fail;
 
-/// Where the tokens of a text begin, and whether the last place forms a token.
-fn places(rt: &HostRuntime, text: &[u8]) -> Result<(Vec<u64>, bool), Fail> {
-    let mut places = Vec::new(rt.alloc());
-    let mut formed = true;
-    for placed in tokens(rt.alloc(), text)? {
-        places.push(placed.at)?;
-        formed = !matches!(placed.token, Token::Nothing);
+/// A text, where its tokens begin, and whether the last place forms a token.
+type PlaceCase = (&'static [u8], &'static [u64], bool);
+
+const PLACES: &[PlaceCase] = &[
+    (b"", &[], true),
+    (b" \t\r\n", &[], true),
+    (b"12a", &[0, 2], true),
+    (b"a12", &[0], true),
+    (b"a\t=\r\n?;", &[0, 2, 5, 6], true),
+    (b"(*),=?;", &[0, 1, 2, 3, 4, 5, 6], true),
+    (b"a # b", &[0, 2], false),
+    (b"c = 'ab''", &[0, 2, 4, 8], false),
+    (b"'it''s'''x", &[0, 9], true),
+    (b"''''''", &[0], true),
+    (b"'open", &[0], false),
+    (b"'a\tb'", &[0], false),
+    (b"a_9 18446744073709551615", &[0, 4], true),
+    (b"a_9 00018446744073709551616", &[0, 4], false),
+    (b"abcdefghijklmnopqrstuvwxyz_12345 x", &[0, 33], true),
+    (b"x abcdefghijklmnopqrstuvwxyz_123456", &[0, 2], false),
+];
+
+/// Whether those are the places of a text's tokens, and the last of them forms one.
+fn are_places(
+    alloc: Global,
+    text: &[u8],
+    places: &[u64],
+    formed: bool,
+) -> Result<bool, AllocError> {
+    let mut found = Vec::new(alloc);
+    let mut last = true;
+    for placed in tokens(alloc, text)? {
+        found.push(placed.at)?;
+        last = !matches!(placed.token, Token::Nothing);
     }
-    Ok((places, formed))
+    Ok(found.as_slice() == places && last == formed)
+}
+
+/// The first text whose tokens begin elsewhere.
+fn first_other(alloc: Global) -> Option<usize> {
+    for (at, (text, places, formed)) in PLACES.iter().enumerate() {
+        if are_places(alloc, text, places, *formed) != Ok(true) {
+            return Some(at);
+        }
+    }
+    None
 }
 
 #[test]
-fn tokens_begin_at_their_places(rt: HostRuntime) -> Result<(), Fail> {
-    let cases: [(&[u8], &[u64], bool); 16] = [
-        (b"", &[], true),
-        (b" \t\r\n", &[], true),
-        (b"12a", &[0, 2], true),
-        (b"a12", &[0], true),
-        (b"a\t=\r\n?;", &[0, 2, 5, 6], true),
-        (b"(*),=?;", &[0, 1, 2, 3, 4, 5, 6], true),
-        (b"a # b", &[0, 2], false),
-        (b"c = 'ab''", &[0, 2, 4, 8], false),
-        (b"'it''s'''x", &[0, 9], true),
-        (b"''''''", &[0], true),
-        (b"'open", &[0], false),
-        (b"'a\tb'", &[0], false),
-        (b"a_9 18446744073709551615", &[0, 4], true),
-        (b"a_9 00018446744073709551616", &[0, 4], false),
-        (b"abcdefghijklmnopqrstuvwxyz_12345 x", &[0, 33], true),
-        (b"x abcdefghijklmnopqrstuvwxyz_123456", &[0, 2], false),
-    ];
-    for (text, at, formed) in cases {
-        let (found, last) = places(&rt, text)?;
-        assert_eq!(rt; found.as_slice(), at);
-        assert_eq!(rt; last, formed);
+fn tokens_begin_at_their_places(rt: HostRuntime) {
+    assert_eq!(rt; first_other(rt.alloc()), None);
+}
+
+const SYMBOLS: &[Symbol] = &[
+    Symbol::Select,
+    Symbol::Count,
+    Symbol::Open,
+    Symbol::Star,
+    Symbol::Close,
+    Symbol::Comma,
+];
+
+fn write_symbols(printer: &mut Printer, symbols: &[Symbol]) -> Result<(), AllocError> {
+    for symbol in symbols {
+        printer.symbol(*symbol)?;
     }
     Ok(())
 }
 
-#[test]
-fn tokens_are_written(rt: HostRuntime) -> Result<(), Fail> {
-    let mut printer = Printer::new(rt.alloc());
-    printer.symbol(Symbol::Select)?;
-    printer.symbol(Symbol::Count)?;
-    printer.symbol(Symbol::Open)?;
-    printer.symbol(Symbol::Star)?;
-    printer.symbol(Symbol::Close)?;
-    printer.symbol(Symbol::Comma)?;
+fn write_greatest(printer: &mut Printer, name: &Name) -> Result<(), AllocError> {
     printer.aggregate(Aggregate::Max)?;
     printer.symbol(Symbol::Open)?;
-    printer.name(&Name::from_string("v".to_string(rt.alloc())?))?;
-    printer.symbol(Symbol::Close)?;
-    printer.symbol(Symbol::And)?;
-    printer.symbol(Symbol::Open)?;
+    printer.name(name)?;
+    printer.symbol(Symbol::Close)
+}
+
+fn write_comparison(printer: &mut Printer, text: &Bytes) -> Result<(), AllocError> {
+    write_symbols(printer, &[Symbol::And, Symbol::Open])?;
     printer.number(70)?;
     printer.symbol(Symbol::Equals)?;
-    printer.text(&Bytes::from_vec(b"it's".to_vec(rt.alloc())?))?;
-    printer.symbol(Symbol::Close)?;
+    printer.text(text)?;
+    printer.symbol(Symbol::Close)
+}
+
+#[test]
+fn tokens_are_written(rt: HostRuntime) -> Result<(), Fail> {
+    let name = Name::from_string("v".to_string(rt.alloc())?);
+    let bytes = Bytes::from_vec(b"it's".to_vec(rt.alloc())?);
+    let mut printer = Printer::new(rt.alloc());
+    write_symbols(&mut printer, SYMBOLS)?;
+    write_greatest(&mut printer, &name)?;
+    write_comparison(&mut printer, &bytes)?;
     let text = printer.into_vec();
     assert_eq!(rt;
         text.as_slice(),

@@ -1,10 +1,10 @@
-//! The cells of the rows of a table.
+//! A row is a cell of one row, in the place of its label.
 
 ghost use Rattle.std.specs.Prelude.{◌≡◌, ◌<◌, ◌≤◌, List, [], ◌∷◌, length, codes, IfOk, IsTrue};
 ghost use Rattle.spl_values.specs.Names.{is_name, is_label};
 ghost use Rattle.spl_values.specs.Kinds.{is_kind};
 
-use cell_merge::{CellItem, CellItems, CellSpec, cell_of_row, empty_cell, merge_into};
+use cell_merge::{CellItem, CellItems, CellSpec, cell_of_row};
 use spl_values::{Column, ColumnType, Columns, Labels, Name, Rows, Schema, Shape, Table, Value};
 use std::alloc::AllocError;
 
@@ -68,11 +68,10 @@ fn cells_of_rows_are_made(rt: HostRuntime) -> Result<(), AllocError> {
             &[CellItem::Sum(1), CellItem::Max(0)],
         )?),
     };
-    let mut out = [7; 3];
-    cell_of_row(&sums, &table, 0, &mut out);
-    assert_eq!(rt; out, [1, 9, 2]);
-    cell_of_row(&sums, &table, 1, &mut out);
-    assert_eq!(rt; out, [1, 4, 0]);
+    let mut cells = [[7; 3]; 2];
+    cell_of_row(&sums, &table, 0, &mut cells[0]);
+    cell_of_row(&sums, &table, 1, &mut cells[1]);
+    assert_eq!(rt; cells, [[1, 9, 2], [1, 4, 0]]);
     Ok(())
 }
 
@@ -85,11 +84,10 @@ fn a_row_is_the_best_of_one(rt: HostRuntime) -> Result<(), AllocError> {
         labels: 0,
         items: CellItems::from_vec(Vec::from_slice(rt.alloc(), &[CellItem::TopK(2, 1, 0)])?),
     };
-    let mut out = [7; 7];
-    cell_of_row(&best, &table, 0, &mut out);
-    assert_eq!(rt; out, [1, 1, 9, 2, 0, 0, 0]);
-    cell_of_row(&best, &table, 1, &mut out);
-    assert_eq!(rt; out, [1, 2, 4, 0, 0, 0, 0]);
+    let mut cells = [[7; 7]; 2];
+    cell_of_row(&best, &table, 0, &mut cells[0]);
+    cell_of_row(&best, &table, 1, &mut cells[1]);
+    assert_eq!(rt; cells, [[1, 1, 9, 2, 0, 0, 0], [1, 2, 4, 0, 0, 0, 0]]);
     Ok(())
 }
 
@@ -102,10 +100,9 @@ fn a_row_stands_in_its_label(rt: HostRuntime) -> Result<(), AllocError> {
         labels: 3,
         items: CellItems::from_vec(Vec::from_slice(rt.alloc(), &[CellItem::Avg(1)])?),
     };
-    let mut out = [7; 6];
-    cell_of_row(&means, &table, 0, &mut out);
-    assert_eq!(rt; out, [0, 0, 0, 0, 1, 9]);
-    cell_of_row(&means, &table, 1, &mut out);
-    assert_eq!(rt; out, [1, 4, 0, 0, 0, 0]);
+    let mut cells = [[7; 6]; 2];
+    cell_of_row(&means, &table, 0, &mut cells[0]);
+    cell_of_row(&means, &table, 1, &mut cells[1]);
+    assert_eq!(rt; cells, [[0, 0, 0, 0, 1, 9], [1, 4, 0, 0, 0, 0]]);
     Ok(())
 }

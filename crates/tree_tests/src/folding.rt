@@ -1,7 +1,7 @@
+//! Shares times cells are added up by any number of workers, each of which enters once.
 use share_eval::{Gate, Lane, OpenGate, fold_shares};
 use spl_words::ShareFn;
 use std::sync::atomic::{AtomicU64, Ordering};
-use std::test::Fail;
 use std::thread::Threads;
 
 /// One more than the low word of a number of 128 bits.
@@ -56,26 +56,35 @@ fn fold_two<T: Threads + Sync, G: Gate + Sync>(
 }
 
 #[test]
-fn sums_of_shares_times_cells(rt: HostRuntime) -> Result<(), Fail> {
+fn sums_of_shares_times_cells(rt: HostRuntime) {
     let keys = [3, 0, (1 << 64) + 1, u128::MAX, 9];
     let cells = [1, 10, 5, 0, 1 << 63, 7, 99, 99, 0, 1];
-    for workers in [1, 2, 7, 64] {
-        // 4 * 1 + 1 * 5 + 2 * 2^63 and 4 * 10 + 2 * 7 + 10 * 1, since the fourth share is 0
-        let folded = fold_two(&rt, &keys, &cells, workers, &OpenGate);
-        assert_eq!(rt; folded, Some([9, 64]), "{workers} workers");
-    }
-    assert_eq!(rt; fold_two(&rt, &[], &[], 64, &OpenGate), Some([0, 0]));
-    Ok(())
+    let found = [
+        fold_two(&rt, &keys, &cells, 1, &OpenGate),
+        fold_two(&rt, &keys, &cells, 2, &OpenGate),
+        fold_two(&rt, &keys, &cells, 7, &OpenGate),
+        fold_two(&rt, &keys, &cells, 64, &OpenGate),
+    ];
+    // 4 * 1 + 1 * 5 + 2 * 2^63 and 4 * 10 + 2 * 7 + 10 * 1, since the fourth share is 0
+    assert_eq!(rt; found, [Some([9, 64]); 4]);
 }
 
 #[test]
-fn each_worker_enters_once(rt: HostRuntime) -> Result<(), Fail> {
-    for (workers, want) in [(1, 1), (3, 7), (64, u64::MAX)] {
-        let gate = Counter {
-            entered: AtomicU64::new(0),
-        };
-        assert!(rt; fold_two(&rt, &[5], &[1, 2], workers, &gate).is_some());
-        assert_eq!(rt; gate.entered.load(Ordering::SeqCst), want);
-    }
-    Ok(())
+fn sums_of_no_cells_are_zero(rt: HostRuntime) {
+    assert_eq!(rt; fold_two(&rt, &[], &[], 64, &OpenGate), Some([0, 0]));
+}
+
+/// What so many workers added up as they entered.
+fn entered<T: Threads + Sync>(rt: &T, workers: usize) -> Option<u64> {
+    let gate = Counter {
+        entered: AtomicU64::new(0),
+    };
+    fold_two(rt, &[5], &[1, 2], workers, &gate)?;
+    Some(gate.entered.load(Ordering::SeqCst))
+}
+
+#[test]
+fn each_worker_enters_once(rt: HostRuntime) {
+    let found = [entered(&rt, 1), entered(&rt, 3), entered(&rt, 64)];
+    assert_eq!(rt; found, [Some(1), Some(7), Some(u64::MAX)]);
 }

@@ -6,6 +6,8 @@ mod cell_rows;
 #[cfg(test)]
 mod expansion;
 #[cfg(test)]
+mod fixtures;
+#[cfg(test)]
 mod folding;
 #[cfg(test)]
 mod interval_slots;

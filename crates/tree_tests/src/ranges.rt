@@ -1,3 +1,5 @@
+//! An interval is covered by aligned ranges, the highest that fit, and cells are lifted level by level.
+use crate::fixtures::are_entries;
 use aligned_ranges::{Range, cover, lift};
 use cell_merge::{CellItems, CellSpec, CellTable};
 use spl_words::{Numbers, Words};
@@ -44,6 +46,7 @@ fn an_interval_without_its_ends_has_two_of_each_level_but_the_highest(
     Ok(())
 }
 
+// a count each
 #[test]
 #[tactic(auto, unfolding(cell_merge::specs::Cells::items_width))]
 fn cells_are_lifted_level_by_level(rt: HostRuntime) -> Result<(), Fail> {
@@ -52,17 +55,15 @@ fn cells_are_lifted_level_by_level(rt: HostRuntime) -> Result<(), Fail> {
         labels: 0,
         items: CellItems::from_vec(Vec::new(rt.alloc())),
     };
-    // a count each
     let mut table = CellTable {
         keys: Numbers::from_vec([1, 2, 3, 6].to_vec(rt.alloc())?),
         cells: Words::from_vec([2, 1, 1, 4].to_vec(rt.alloc())?),
         width: 1,
     };
     lift(&spec, &mut table);
-    assert_eq!(rt; table.keys.as_slice(), [0, 1, 3].as_slice());
-    assert_eq!(rt; table.cells.as_slice(), [2, 2, 4].as_slice());
+    let once = are_entries(&table, &[0, 1, 3], &[2, 2, 4]);
     lift(&spec, &mut table);
-    assert_eq!(rt; table.keys.as_slice(), [0, 1].as_slice());
-    assert_eq!(rt; table.cells.as_slice(), [4, 4].as_slice());
+    let twice = are_entries(&table, &[0, 1], &[4, 4]);
+    assert_eq!(rt; (once, twice), (true, true));
     Ok(())
 }
