@@ -1,5 +1,5 @@
 //! The words of both answers, added.
-ghost use Rattle.std.specs.Prelude.{◌≡◌, ◌^◌, ◌-◌, length, min, IfOk};
+ghost use Rattle.std.specs.Prelude.{◌≡◌, ◌^◌, ◌-◌, length, min, Err, IfOk};
 ghost use Rattle.spl_words.specs.Results.{Is};
 ghost use Rattle.combiner.specs.declared.combining.CombineFault.TheVariants as fault;
 ghost use Rattle.combiner.specs.Combining.{by_provider as in_order, key_of, agree as agreed, answers as answers_to, same_tables, noted_table, added, combined};
@@ -152,6 +152,8 @@ pub fn combine_words(
     expected: u32,
 ) -> Result<Words, CombineFault>
     ensures gives { Gives fault.OutOfMemory (λ words. words) result (combined note.now a.now b.now expected) }
+    // What refuses them is told however little memory there is.
+    ensures refusals { (e : CombineFault) → combined note.now a.now b.now expected ≡ Err e → result ≡ Err e }
     ensures length { IfOk result (λ words. length words ≡ expected) }
 {
     let (zero, one) = by_provider(a, b)?;

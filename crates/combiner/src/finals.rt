@@ -1,5 +1,5 @@
 //! The answer that the combined words stand for.
-ghost use Rattle.std.specs.Prelude.{◌≡◌, ◌≤◌, ◌<◌, All, true, length, IfOk};
+ghost use Rattle.std.specs.Prelude.{◌≡◌, ◌≤◌, ◌<◌, All, true, length, Err, IfOk};
 ghost use Rattle.std.specs.List.{list_all};
 ghost use Rattle.cell_merge.specs.Cells.{block_width, cell_width};
 ghost use Rattle.query_reader.specs.Accepted.{IsCheckedFor};
@@ -127,6 +127,8 @@ pub fn final_answer(
     requires kind { plan.now.kind ≡ kind.Sum }
     requires words { length words.now ≡ words_of_last plan.now }
     ensures gives { Gives fault.OutOfMemory (λ answer. answer.groups) result (final_of checked.now shape.now words.now) }
+    // A word that isn't good is told however little memory there is.
+    ensures refusals { (e : FinalFault) → final_of checked.now shape.now words.now ≡ Err e → result ≡ Err e }
     ensures printable { IfOk result (λ answer. All (GroupFits shape.now.schema.columns checked.now.spec) answer.groups) }
 {
     laws::accepted_has_cells();
