@@ -6,7 +6,7 @@ use Rattle.std.proofs.Math.Nat.{add-mul}
 use Rattle.std.proofs.lemmas.Nat.{mul-mod_first}
 use Rattle.std.proofs.lemmas.List.Sums.{sum_by-cons}
 use Rattle.spl_words.specs.Words.{plus}
-use Rattle.spl_words.specs.Secrets.{Secret}
+use Rattle.spl_words.specs.declared.provider.Provider.{Provider}
 use Rattle.spl_words.specs.declared.provider.Provider.TheVariants.{Zero, One}
 use Rattle.spl_values.specs.Tables.{TableParts, IsTable, key_bits}
 use Rattle.cell_merge.specs.Rows.{Row}
@@ -30,7 +30,8 @@ use Rattle.private_plan.specs.Branches.{row_key, branch_spans}
 use Rattle.private_plan.specs.Slots.{sum_secrets}
 use Rattle.private_plan.proofs.Spans.{row_key_below, spans_fit}
 use Rattle.private_plan.proofs.SlotSecrets.{secrets_tell, slots_fit}
-use Rattle.session_model.specs.Providers.{shares_of, answer_word}
+use Rattle.session_model.specs.KeyLists.{key_list, key_shares}
+use Rattle.session_model.specs.Answers.{answer_word}
 use Rattle.session_model.proofs.CellSums.{rows_add}
 use Rattle.session_model.proofs.Shares.{shares_add, slots_add}
 use Rattle.session_model.proofs.TableRows.{row_codes, row_key_same, each_row}
@@ -62,12 +63,13 @@ two_words a b v e = omega (arith, e)
 
 module _ (e : Meaning) (pure : IsPure e) (checked : Checked) (t : TableParts) (params : List ℕ) (roots : List (ℕ × ℕ)) (valid : IsTable t)
     (accepted : IsCheckedFor checked t.shape.schema) (form : IsQuery checked.query) (known : AreParamsFor checked t.shape.schema params) where
-  secrets : List Secret
-  secrets = sum_secrets checked t.shape.schema.columns params
+  -- a provider's shares at x
+  abbrev shares : Provider → ℕ → ℕ
+  shares p x = key_shares e p 0 (key_list e p 0 (sum_secrets checked t.shape.schema.columns params) roots) x
 
   -- the shares of both at a row's joined key
   row_shares : length roots ≡ length (sum_secrets checked t.shape.schema.columns params) → (n : ℕ) → n < length t.rows
-      → (shares_of e Zero 0 (sum_secrets checked t.shape.schema.columns params) roots (joined_key checked t (row_in t n)) + shares_of e One 0 (sum_secrets checked t.shape.schema.columns params) roots (joined_key checked t (row_in t n))) % 2 ^ 64
+      → (shares Zero (joined_key checked t (row_in t n)) + shares One (joined_key checked t (row_in t n))) % 2 ^ 64
       ≡ cond (some_branch_holds checked.branches checked.columns checked.range params (row_in t n)) 1 0 % 2 ^ 64
   row_shares same n h =
       let columns = t.shape.schema.columns in
@@ -87,17 +89,18 @@ module _ (e : Meaning) (pure : IsPure e) (checked : Checked) (t : TableParts) (p
         low false = refl
 
   pub answers_add : list_all is_sum checked.spec.items ≡ true → length roots ≡ length (sum_secrets checked t.shape.schema.columns params) → (k : ℕ) → k < cell_width checked.spec
-      → plus (answer_word e Zero checked params t roots k) (answer_word e One checked params t roots k) ≡ slice_index (cell (adds_in t.shape.schema.columns) checked.spec (matching_rows checked params t)) k % 2 ^ 64
+      → plus (answer_word e Zero checked (key_list e Zero 0 (sum_secrets checked t.shape.schema.columns params) roots) t k) (answer_word e One checked (key_list e One 0 (sum_secrets checked t.shape.schema.columns params) roots) t k)
+      ≡ slice_index (cell (adds_in t.shape.schema.columns) checked.spec (matching_rows checked params t)) k % 2 ^ 64
   answers_add sums same k here =
-      let f = λ (r : Row). shares_of e Zero 0 (sum_secrets checked t.shape.schema.columns params) roots (joined_key checked t r) in
-      let g = λ (r : Row). shares_of e One 0 (sum_secrets checked t.shape.schema.columns params) roots (joined_key checked t r) in
+      let f = λ (r : Row). shares Zero (joined_key checked t r) in
+      let g = λ (r : Row). shares One (joined_key checked t r) in
       let w = λ (r : Row). slice_index (row_cell checked t r) k in
       let m = some_branch_holds checked.branches checked.columns checked.range params in
       let rows = kept_rows checked t in
       let all = each_row t valid (λ r. (f r + g r) % 2 ^ 64 ≡ cond (m r) 1 0 % 2 ^ 64) (row_shares same) in
       let kept = each-filter (λ r. (f r + g r) % 2 ^ 64 ≡ cond (m r) 1 0 % 2 ^ 64) (is_kept checked.public) (rows_of t) all in
-      let zero_is = over_rows (λ p. shares_of e Zero 0 (sum_secrets checked t.shape.schema.columns params) roots p.0 * slice_index p.1 k) (λ r. (joined_key checked t r, row_cell checked t r)) rows in
-      let one_is = over_rows (λ p. shares_of e One 0 (sum_secrets checked t.shape.schema.columns params) roots p.0 * slice_index p.1 k) (λ r. (joined_key checked t r, row_cell checked t r)) rows in
+      let zero_is = over_rows (λ p. shares Zero p.0 * slice_index p.1 k) (λ r. (joined_key checked t r, row_cell checked t r)) rows in
+      let one_is = over_rows (λ p. shares One p.0 * slice_index p.1 k) (λ r. (joined_key checked t r, row_cell checked t r)) rows in
       let apart = Apart-filter (is_kept checked.public) (rows_of t) (rows_apart t) in
       let fewer = length-filter-le (is_kept checked.public) (rows_of t) in
       let count = length-rows_of t in

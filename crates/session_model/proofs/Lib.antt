@@ -2,4 +2,4 @@ pub mod CellSums
 pub mod Shares
 pub mod TableRows
 pub mod Answers
-pub mod KeyShares
+pub mod KeyTrees

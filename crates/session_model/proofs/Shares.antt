@@ -13,11 +13,11 @@ use Rattle.point_keys.proofs.PointLaw.{point_shares_add}
 use Rattle.interval_keys.specs.Intervals.{Span, minus_below, threshold}
 use Rattle.interval_keys.proofs.ThresholdLaw.{threshold_shares_add}
 use Rattle.private_plan.specs.Slots.{point_secret, slot_secrets}
-use Rattle.session_model.specs.Providers.{share_of, shares_of}
+use Rattle.session_model.specs.KeyLists.{key_of, key_list, key_share, key_shares}
 
 -- the shares of both providers at x add to the secret's function there, in any tree with any roots
 abbrev pub Adds : Meaning → ℕ → Secret → Type 0
-Adds e x s = (tree : ℕ) (roots : ℕ × ℕ) → (share_of s.kind e Zero tree s roots x + share_of s.kind e One tree s roots x) % 2 ^ 64 ≡ secret_value s x % 2 ^ 64
+Adds e x s = (tree : ℕ) (roots : ℕ × ℕ) → (key_share e Zero tree (key_of s.kind e Zero tree s roots) x + key_share e One tree (key_of s.kind e One tree s roots) x) % 2 ^ 64 ≡ secret_value s x % 2 ^ 64
 
 settled : (a b v : ℕ) → plus a b ≡ v → (a + b) % 2 ^ 64 ≡ v % 2 ^ 64
 settled a b v e = omega (arith, e)
@@ -27,23 +27,21 @@ parts a b v r s w e f = omega (arith, e, f)
 
 -- so do the shares of several trees
 pub shares_add : (e : Meaning) (x : ℕ) (ss : List Secret) (tree : ℕ) (roots : List (ℕ × ℕ)) → length roots ≡ length ss → AllByRecursion (Adds e x) ss
-    → (shares_of e Zero tree ss roots x + shares_of e One tree ss roots x) % 2 ^ 64 ≡ sum_by (λ s. secret_value s x) ss % 2 ^ 64
-unfolding shares_of
+    → (key_shares e Zero tree (key_list e Zero tree ss roots) x + key_shares e One tree (key_list e One tree ss roots) x) % 2 ^ 64 ≡ sum_by (λ s. secret_value s x) ss % 2 ^ 64
+unfolding key_list key_shares
 shares_add e x [] tree roots same each = refl
 shares_add e x (s ∷ ss) tree [] same each = absurd (omega (arith, same))
 shares_add e x (s ∷ ss) tree (r ∷ rs) same each =
     let more = shares_add e x ss (tree + 1) rs (omega (arith, same)) each.1 in
-    parts (share_of s.kind e Zero tree s r x) (share_of s.kind e One tree s r x) (secret_value s x) (shares_of e Zero (tree + 1) ss rs x) (shares_of e One (tree + 1) ss rs x) (sum_by (λ t. secret_value t x) ss) (each.0 tree r) more
+    parts (key_share e Zero tree (key_of s.kind e Zero tree s r) x) (key_share e One tree (key_of s.kind e One tree s r) x) (secret_value s x) (key_shares e Zero (tree + 1) (key_list e Zero (tree + 1) ss rs) x) (key_shares e One (tree + 1) (key_list e One (tree + 1) ss rs) x) (sum_by (λ t. secret_value t x) ss) (each.0 tree r) more
     ∙ sym (ap (λ n. n % 2 ^ 64) (sum_by-cons (λ t. secret_value t x) s ss))
 
 module _ (e : Meaning) (pure : IsPure e) (bits x : ℕ) (here : x < 2 ^ bits) where
   point_adds : (s : Option Span) → IfSome s (λ t. (t.lo ≤ t.hi) × (t.hi < 2 ^ bits)) → Adds e x (point_secret bits s)
-  unfolding share_of
   point_adds None ends tree roots = settled _ _ _ (point_shares_add e pure tree (point_secret bits None) roots x (pow_pos bits) (omega arith) here)
   point_adds (Some t) ends tree roots = settled _ _ _ (point_shares_add e pure tree (point_secret bits (Some t)) roots x (omega (arith, ends.0, ends.1)) (omega arith) here)
 
   threshold_adds : (alpha beta : ℕ) → alpha < 2 ^ bits → beta < 2 ^ 64 → Adds e x (threshold bits alpha beta)
-  unfolding share_of
   threshold_adds alpha beta a b tree roots = settled _ _ _ (threshold_shares_add e pure tree (threshold bits alpha beta) roots x a b here)
 
   below_adds : (n : ℕ) → n < 2 ^ bits → Adds e x (minus_below bits n)

@@ -16,9 +16,13 @@ use Rattle.answer_frames.specs.Spelling.{spelling}
 use Rattle.session_model.specs.Providers.{weighted_word}
 use Rattle.session_model.specs.KeyLists.{key_shares}
 
--- the words of a query of counts, sums and means: the sums, over the kept rows, of the shares at the row's joined key times the row's cell
+-- word k of a provider's answer to a query of counts, sums and means: the sum, over the kept rows, of its shares at the row's joined key times the row's cell
+abbrev pub answer_word : Meaning → Provider → Checked → List Key → TableParts → ℕ → ℕ
+answer_word e p checked keys table k = weighted_word (key_shares e p 0 keys) k (sum_pairs checked table)
+
+-- the words of the answer
 abbrev pub answer_words : Meaning → Provider → Checked → List Key → TableParts → List ℕ
-answer_words e p checked keys table = map (λ k. weighted_word (key_shares e p 0 keys) k (sum_pairs checked table)) (range_with_len 0 (cell_width checked.spec))
+answer_words e p checked keys table = map (answer_word e p checked keys table) (range_with_len 0 (cell_width checked.spec))
 
 -- the answer of a provider to a key frame with these bytes, whose query is the accepted one
 abbrev pub answer_frame : Meaning → Provider → List ℕ → KeyFrame → Checked → TableParts → AnswerFrame

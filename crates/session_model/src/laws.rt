@@ -1,5 +1,5 @@
 //! Laws of sessions. Each function does nothing: its clauses are the laws.
-ghost use Rattle.std.specs.Prelude.{◌≡◌, ℕ, ◌*◌, ◌%◌, ◌^◌, ◌<◌, Bool, true, List, [], ◌∷◌, length, sum_by, slice_index, if◌then◌else◌};
+ghost use Rattle.std.specs.Prelude.{◌≡◌, ℕ, ◌*◌, ◌%◌, ◌^◌, ◌<◌, Bool, true, List, [], ◌∷◌, length, map, sum_by, slice_index, if◌then◌else◌};
 ghost use Rattle.std.specs.List.{filter, list_all};
 ghost use Rattle.spl_words.specs.Words.{plus};
 ghost use Rattle.spl_words.specs.declared.provider.Provider.{Provider};
@@ -17,9 +17,9 @@ ghost use Rattle.query_reader.specs.Accepted.{IsCheckedFor};
 ghost use Rattle.query_reader.specs.Matching.{matching_rows};
 ghost use Rattle.query_reader.specs.Params.{AreParamsFor};
 ghost use Rattle.private_plan.specs.Plans.{is_sum};
-ghost use Rattle.private_plan.specs.Slots.{sum_secrets};
-ghost use Rattle.session_model.specs.Providers.{answer_word, shares_of};
-ghost use Rattle.session_model.specs.KeyLists.{key_list, key_shares};
+ghost use Rattle.private_plan.specs.Slots.{secret_tree, sum_secrets};
+ghost use Rattle.session_model.specs.KeyLists.{key_list, key_tree};
+ghost use Rattle.session_model.specs.Answers.{answer_word};
 
 /// Where all items are counts, sums and means, the cell of the rows that pass a test is, word by word
 /// and modulo 2^64, the sum of the cells of the single rows that do.
@@ -30,15 +30,16 @@ pub fn cells_of_rows_add()
 
 /// The answers of both providers to an accepted query of counts, sums and means add, word by word and
 /// modulo 2^64, to the cell of the rows that match: for every pure expander, every parameters, table
-/// and roots.
+/// and roots, each provider's answer under its own keys.
 pub fn answers_add_to_the_matching_cell()
     ensures { (e : Meaning) → IsPure e → (checked : Checked) (table : TableParts) (params : List ℕ) (roots : List (ℕ × ℕ)) → IsTable table
         → IsCheckedFor checked table.shape.schema → IsQuery checked.query → AreParamsFor checked table.shape.schema params → list_all is_sum checked.spec.items ≡ true
         → length roots ≡ length (sum_secrets checked table.shape.schema.columns params) → (k : ℕ) → k < cell_width checked.spec
-        → plus (answer_word e Zero checked params table roots k) (answer_word e One checked params table roots k) ≡ slice_index (cell (adds_in table.shape.schema.columns) checked.spec (matching_rows checked params table)) k % 2 ^ 64 }
+        → plus (answer_word e Zero checked (key_list e Zero 0 (sum_secrets checked table.shape.schema.columns params) roots) table k) (answer_word e One checked (key_list e One 0 (sum_secrets checked table.shape.schema.columns params) roots) table k)
+        ≡ slice_index (cell (adds_in table.shape.schema.columns) checked.spec (matching_rows checked params table)) k % 2 ^ 64 }
 {}
 
-/// What a provider's shares under its keys of some secrets add to is what its shares of these secrets do.
-pub fn shares_of_keys_are_those_of_secrets()
-    ensures { (e : Meaning) (p : Provider) (tree : ℕ) (secrets : List Secret) (roots : List (ℕ × ℕ)) (x : ℕ) → key_shares e p tree (key_list e p tree secrets roots) x ≡ shares_of e p tree secrets roots x }
+/// The keys of some secrets are keys of the secrets' trees, in the same order: of their kinds and depths.
+pub fn keys_are_of_their_secrets_trees()
+    ensures { (e : Meaning) (p : Provider) (tree : ℕ) (secrets : List Secret) (roots : List (ℕ × ℕ)) → length roots ≡ length secrets → map key_tree (key_list e p tree secrets roots) ≡ map secret_tree secrets }
 {}
