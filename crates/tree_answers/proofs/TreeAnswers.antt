@@ -22,7 +22,8 @@ use Rattle.cell_merge.proofs.Lists.{each-map, each_weaker}
 use Rattle.cell_runs.specs.CellsBy.{cells_by, rows_at}
 use Rattle.cell_runs.proofs.Grouping.{cell_at}
 use Rattle.cell_runs.proofs.Numbers.{all_among, among_all, none_among}
-use Rattle.session_model.specs.Providers.{share_of, weighted_word}
+use Rattle.session_model.specs.Providers.{weighted_word}
+use Rattle.session_model.specs.KeyLists.{key_of, key_share}
 
 -- ---- sums of products
 
@@ -105,8 +106,7 @@ module _ (e : Meaning) (pure : IsPure e) (adds : Addends) (spec : CellSpec) (num
   w : ℕ → ℕ
   w n = slice_index (cell adds spec (rows_at number rows n)) k
 
-  shares : (n : ℕ) → n < 2 ^ s.depth → (share_of Point e Zero tree s roots n + share_of Point e One tree s roots n) % 2 ^ 64 ≡ point_value s.alpha s.beta n % 2 ^ 64
-  unfolding share_of
+  shares : (n : ℕ) → n < 2 ^ s.depth → (key_share e Zero tree (key_of Point e Zero tree s roots) n + key_share e One tree (key_of Point e One tree s roots) n) % 2 ^ 64 ≡ point_value s.alpha s.beta n % 2 ^ 64
   shares n h = settled _ _ _ (point_shares_add e pure tree s roots n within word h)
     where
       settled : (a b v : ℕ) → plus a b ≡ v → (a + b) % 2 ^ 64 ≡ v % 2 ^ 64
@@ -118,13 +118,13 @@ module _ (e : Meaning) (pure : IsPure e) (adds : Addends) (spec : CellSpec) (num
       let none = none_among number s.alpha rows (sym (any-rising (λ y. eqb y s.alpha) (map number rows)) ∙ absent) in
       ap (λ l. slice_index (cell adds spec l) k) none ∙ (ap (λ l. slice_index l k) (cell_empty adds spec) ∙ no_word (cell_width spec) k)
 
-  pub answers_add : plus (weighted_word (share_of Point e Zero tree s roots) k (cells_by adds spec number rows)) (weighted_word (share_of Point e One tree s roots) k (cells_by adds spec number rows))
+  pub answers_add : plus (weighted_word (key_share e Zero tree (key_of Point e Zero tree s roots)) k (cells_by adds spec number rows)) (weighted_word (key_share e One tree (key_of Point e One tree s roots)) k (cells_by adds spec number rows))
       ≡ s.beta * slice_index (cell adds spec (rows_at number rows s.alpha)) k % 2 ^ 64
   unfolding w
   answers_add =
       let ns = rising (map number rows) in
-      let f = share_of Point e Zero tree s roots in
-      let g = share_of Point e One tree s roots in
+      let f = key_share e Zero tree (key_of Point e Zero tree s roots) in
+      let g = key_share e One tree (key_of Point e One tree s roots) in
       let P : ℕ → Type 0 = λ n. n < 2 ^ s.depth in
       let small : AllByRecursion P ns = among_all P ns (λ x t. all_among P (map number rows) x (each-map P number rows below) (sym (any-rising (λ y. eqb y x) (map number rows)) ∙ t)) in
       let each : AllByRecursion (λ n. (f n + g n) % 2 ^ 64 ≡ point_value s.alpha s.beta n % 2 ^ 64) ns = each_weaker P (λ n. (f n + g n) % 2 ^ 64 ≡ point_value s.alpha s.beta n % 2 ^ 64) shares ns small in

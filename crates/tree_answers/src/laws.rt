@@ -10,14 +10,16 @@ ghost use Rattle.cell_merge.specs.Rows.{Row};
 ghost use Rattle.cell_merge.specs.Cells.{Addends, cell};
 ghost use Rattle.cell_merge.specs.declared.spec.CellSpec.{CellSpec};
 ghost use Rattle.cell_runs.specs.CellsBy.{cells_by, rows_at};
-ghost use Rattle.session_model.specs.Providers.{share_of, weighted_word};
+ghost use Rattle.session_model.specs.Providers.{weighted_word};
+ghost use Rattle.session_model.specs.KeyLists.{key_of, key_share};
 
-/// Where both providers weigh cells by a number with their shares of one point function, their words add, modulo 2^64,
+/// Where both providers weigh cells by a number with their shares under their keys of one point function, their words add, modulo 2^64,
 /// to beta times the words of the cell of the rows at alpha: for every pure expander, tree and roots. So a tree with
 /// beta 1 tells the cell at its alpha, which is empty where no row is there, and an unused one, with beta 0, zeros.
 pub fn point_answers_add()
     ensures { (e : Meaning) → IsPure e → (adds : Addends) (spec : CellSpec) (number : Row → ℕ) (rows : List Row) (tree : ℕ) (s : Secret) (roots : ℕ × ℕ) (k : ℕ)
         → s.kind ≡ Point → s.alpha < 2 ^ s.depth → s.beta < 2 ^ 64 → AllByRecursion (λ r. number r < 2 ^ s.depth) rows
-        → plus (weighted_word (share_of Point e Zero tree s roots) k (cells_by adds spec number rows)) (weighted_word (share_of Point e One tree s roots) k (cells_by adds spec number rows))
+        → plus (weighted_word (key_share e Zero tree (key_of Point e Zero tree s roots)) k (cells_by adds spec number rows))
+        (weighted_word (key_share e One tree (key_of Point e One tree s roots)) k (cells_by adds spec number rows))
         ≡ s.beta * slice_index (cell adds spec (rows_at number rows s.alpha)) k % 2 ^ 64 }
 {}
