@@ -2,30 +2,17 @@
 use Rattle.std.proofs.Common.{◌≡◌, ℕ, suc, ◌+◌, ◌≤◌, List, [], ◌∷◌, length, None, refl, ap, arith}
 use Rattle.std.specs.List.{AllByRecursion, position}
 use Rattle.spl_words.specs.declared.provider.Provider.{Provider}
-use Rattle.spl_words.specs.declared.provider.Provider.TheVariants.{Zero, One}
 use Rattle.spl_words.specs.declared.secret.TreeKind.{TreeKind}
-use Rattle.spl_words.specs.declared.secret.TreeKind.TheVariants.{Point, Threshold}
 use Rattle.spl_words.specs.Secrets.{Secret}
 use Rattle.spl_values.specs.Shapes.{ShapeParts}
 use Rattle.seed_expansion.specs.Expanders.{Meaning}
-use Rattle.seed_expansion.proofs.Walk.{length-corrections}
-use Rattle.point_keys.specs.Points.{point_keys}
-use Rattle.interval_keys.specs.Thresholds.{threshold_keys}
-use Rattle.interval_keys.proofs.ThresholdLaw.{length-levels}
-use Rattle.key_frames.specs.Keys.{KeyAllowed, depth}
+use Rattle.key_frames.specs.Keys.{KeyAllowed}
 use Rattle.key_frames.specs.Frames.{FrameAllowed}
 use Rattle.key_frames.specs.Texts.{is_bad}
 use Rattle.session_model.specs.KeyLists.{key_of, key_list}
 use Rattle.session_model.specs.Sessions.{frame_of}
+use Rattle.session_model.proofs.KeyTrees.{depth_same}
 use Rattle.client_rounds.proofs.Trees.{HasDepth}
-
--- a key has as many levels as its tree is deep
-pub depth_same : (kind : TreeKind) (e : Meaning) (p : Provider) (tree : ℕ) (s : Secret) (roots : ℕ × ℕ) → depth (key_of kind e p tree s roots) ≡ s.depth
-unfolding point_keys threshold_keys
-depth_same Point e Zero tree s roots = length-corrections e tree s roots s.depth
-depth_same Point e One tree s roots = length-corrections e tree s roots s.depth
-depth_same Threshold e Zero tree s roots = length-levels e tree s roots s.depth
-depth_same Threshold e One tree s roots = length-levels e tree s roots s.depth
 
 key_allowed : (kind : TreeKind) (e : Meaning) (p : Provider) (tree : ℕ) (s : Secret) (roots : ℕ × ℕ) → HasDepth s → KeyAllowed (key_of kind e p tree s roots)
 key_allowed kind e p tree s roots h = let same = depth_same kind e p tree s roots in record { some = omega (arith, same, h.some); count = omega (arith, same, h.most) }

@@ -2,7 +2,7 @@
 use Rattle.std.proofs.Common.{◌≡◌, ℕ, suc, ◌+◌, ◌-◌, ◌*◌, ◌≤◌, ◌<◌, List, [], ◌∷◌, ◌++◌, drop, Option, Some, None, refl, sym, ap, subst, ◌∙◌, append_assoc, arith}
 use Rattle.std.specs.Prelude.{IfSome}
 use Rattle.std.proofs.lemmas.List.{append-nil, drop-drop}
-use Rattle.spl_outside.specs.Content.{LeftAfter}
+use Rattle.spl_outside.specs.Content.{LeftAfter, first_or_zero}
 use Rattle.session_model.specs.Draws.{tree_roots, roots_of}
 
 -- some more of the words behind others
@@ -20,6 +20,11 @@ pub refused_second : {A : Type 0} (value : List ℕ → A) (x : A) (a b all : �
 refused_second value x a b all None mid left fits first second = tt
 refused_second value x a b all (Some ws) mid left fits first second =
     later a b all ws left fits (subst (λ m. IfSome m (λ vs. LeftAfter b vs left)) first.1 second)
+
+-- a word was drawn, and the next one was not
+pub refused_word : (x : ℕ) (o mid left : Option (List ℕ)) → IfSome o (λ ws. (x ≡ first_or_zero ws) × (mid ≡ Some (drop 1 ws))) → IfSome mid (λ ws. left ≡ Some ws) → IfSome o (λ ws. LeftAfter 2 ws left)
+refused_word x None mid left first second = tt
+refused_word x (Some ws) mid left first second = (1, (omega arith, subst (λ m. IfSome m (λ vs. left ≡ Some vs)) first.1 second))
 
 -- ---- the roots of trees, one tree after another
 

@@ -42,12 +42,11 @@ use Rattle.answer_frames.specs.Spelling.{AnswerOf}
 use Rattle.key_frames.specs.Notes.{NoteOf}
 use Rattle.session_model.specs.Draws.{wide, roots_of}
 use Rattle.session_model.specs.KeyLists.{key_list, key_shares}
-use Rattle.session_model.specs.Providers.{weighted_word, answer_word}
-use Rattle.session_model.specs.Answers.{answer_words, answer_frame}
+use Rattle.session_model.specs.Providers.{weighted_word}
+use Rattle.session_model.specs.Answers.{answer_word, answer_frame}
 use Rattle.session_model.specs.Sessions.{session_roots, key_frame, key_bytes, round_answer, note, note_bytes, clear_text}
 use Rattle.session_model.proofs.Answers.{answers_add}
 use Rattle.session_model.proofs.CellSums.{length-cell}
-use Rattle.session_model.proofs.KeyShares.{shares_same}
 use Rattle.combiner.specs.Combining.{added, combined}
 use Rattle.combiner.specs.Finals.{last_words, final_of}
 use Rattle.combiner.proofs.Adding.{combined_agreed, combined_either}
@@ -90,13 +89,6 @@ length-roots_of (suc n) words = let more = length-roots_of n (drop 4 words) in o
 -- ---- answers
 
 module _ (e : Meaning) (checked : Checked) (table : TableParts) (params drawn : List ℕ) where
-  -- the words that a provider answers are those of its own shares
-  own_words : (p : Provider) (roots : List (ℕ × ℕ)) → answer_words e p checked (key_list e p 0 (sum_secrets checked table.shape.schema.columns params) roots) table
-      ≡ map (answer_word e p checked params table roots) (range_with_len 0 (cell_width checked.spec))
-  own_words p roots =
-      ap (λ (f : ℕ → ℕ). map (λ k. weighted_word f k (sum_pairs checked table)) (range_with_len 0 (cell_width checked.spec)))
-      (λ i x. shares_same e p 0 (sum_secrets checked table.shape.schema.columns params) roots x i)
-
   pub length-answer : (p : Provider) → length (answer_frame e p (key_bytes e p checked table.shape params drawn) (key_frame e p checked table.shape params drawn) checked table).words ≡ cell_width checked.spec
   length-answer p = length-map (range_with_len 0 (cell_width checked.spec)) _ ∙ length-range_with_len 0 (cell_width checked.spec)
 
@@ -161,8 +153,8 @@ module _ (e : Meaning) (pure : IsPure e) (checked : Checked) (table : TableParts
       let columns = table.shape.schema.columns in
       let roots = session_roots (sum_secrets checked columns params) drawn in
       let w = cell_width checked.spec in
-      let f = answer_word e Zero checked params table roots in
-      let g = answer_word e One checked params table roots in
+      let f = answer_word e Zero checked (key_list e Zero 0 (sum_secrets checked columns params) roots) table in
+      let g = answer_word e One checked (key_list e One 0 (sum_secrets checked columns params) roots) table in
       let rows = matching_rows checked params table in
       let all = cell (adds_in columns) checked.spec rows in
       let wide_enough : length all ≡ w = length-cell (adds_in columns) checked.spec rows in
@@ -174,7 +166,7 @@ module _ (e : Meaning) (pure : IsPure e) (checked : Checked) (table : TableParts
       ap (λ (i : ℕ). plus (f i) (g i)) start
       ∙ answers_add e pure checked table params roots valid accepted form.form known sums same k (omega (arith, here, wide_enough))
       ∙ mod-eq_of_lt (word_small all k small here) in
-      rw (own_words e checked table params drawn Zero roots, own_words e checked table params drawn One roots, added-map f g (range_with_len 0 w), sym wide_enough) (listed (λ k. plus (f k) (g k)) 0 all each)
+      rw (added-map f g (range_with_len 0 w), sym wide_enough) (listed (λ k. plus (f k) (g k)) 0 all each)
 
   -- what the note says
   abbrev judged : Judged

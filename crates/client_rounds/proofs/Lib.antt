@@ -12,3 +12,4 @@ pub mod CellWords
 pub mod Read
 pub mod Ends
 pub mod ParamCounts
+pub mod FrameLengths

@@ -1,12 +1,8 @@
 -- What the fault of a step is for a client. Want of memory is always the same.
-use Rattle.spl_outside.specs.declared.Stop.{Stop}
-use Rattle.spl_outside.specs.declared.Stop.TheVariants as stop
 use Rattle.query_parser.specs.declared.fault.QueryFault.{QueryFault}
 use Rattle.query_parser.specs.declared.fault.QueryFault.TheVariants as query
 use Rattle.query_reader.specs.declared.params.ParamFault.{ParamFault}
 use Rattle.query_reader.specs.declared.params.ParamFault.TheVariants as param
-use Rattle.private_plan.specs.declared.secrets.SecretFault.{SecretFault}
-use Rattle.private_plan.specs.declared.secrets.SecretFault.TheVariants as secret
 use Rattle.client_rounds.specs.declared.faults.AskFault.{AskFault}
 use Rattle.client_rounds.specs.declared.faults.AskFault.TheVariants as ask
 
@@ -19,13 +15,3 @@ query_fault e = ask.Query e
 abbrev pub param_fault : ParamFault → AskFault
 param_fault param.OutOfMemory = ask.OutOfMemory
 param_fault e = ask.Param e
-
--- of counts that can't be: the first of them is a bad word
-abbrev pub secret_fault : SecretFault → AskFault
-secret_fault (secret.BadCount i found limit) = ask.BadWord i found
-secret_fault secret.OutOfMemory = ask.OutOfMemory
-
--- of words that aren't drawn
-abbrev pub draw_stop : Stop → AskFault
-draw_stop stop.Failed = ask.DrawFault
-draw_stop stop.OutOfMemory = ask.OutOfMemory

@@ -2,10 +2,13 @@
 use Rattle.std.specs.Prelude.{◌≡◌, ℕ, ◌+◌, ◌*◌, List, length}
 use Rattle.spl_words.specs.declared.provider.Provider.TheVariants.{Zero, One}
 use Rattle.spl_values.specs.Shapes.{ShapeParts}
+use Rattle.spl_values.specs.ShapeTexts.{shape_text}
 use Rattle.seed_expansion.specs.Expanders.{Meaning}
+use Rattle.query_tokens.specs.Printing.{canonical_text}
 use Rattle.query_reader.specs.declared.checked.Checked.{Checked}
 use Rattle.key_frames.specs.Frames.{KeyFrameOf}
 use Rattle.key_frames.specs.Notes.{NoteOf}
+use Rattle.private_plan.specs.Lengths.{frame_length}
 use Rattle.private_plan.specs.Plans.{plan_of}
 use Rattle.private_plan.specs.Slots.{sum_secrets}
 use Rattle.session_model.specs.Sessions.{key_frame, key_bytes, note, note_bytes}
@@ -14,6 +17,10 @@ use Rattle.client_rounds.specs.declared.starting.RoundOut.{RoundOut}
 -- how many words the round takes: two for the session's number, and four for each tree
 abbrev pub words_taken : Checked → ShapeParts → List ℕ → ℕ
 words_taken checked shape params = 2 + 4 * length (sum_secrets checked shape.schema.columns params)
+
+-- how many bytes each of its key frames has, as the plan tells it from the lengths of the query's text and the shape's
+abbrev pub round_length : Checked → ShapeParts → ℕ
+round_length checked shape = frame_length (plan_of checked shape) 1 (length (canonical_text checked.query)) (length (shape_text shape))
 
 -- what the round leaves, from the words that are drawn
 abbrev pub round_out : Meaning → Checked → ShapeParts → List ℕ → List ℕ → RoundOut

@@ -1,38 +1,27 @@
 //! The random words of a session.
-ghost use Rattle.std.specs.Prelude.{◌≡◌, ◌+◌, ◌*◌, length, drop, IfSome, IfOk, IsErrOf};
-ghost use Rattle.spl_outside.specs.Causes.{HasCause};
-ghost use Rattle.session_model.specs.Draws.{word_at, wide, tree_roots, roots_of};
+ghost use Rattle.std.specs.Prelude.{◌≡◌, ◌+◌, ◌*◌, length, drop, IfSome, IfOk, IsErr, IsErrOf};
+ghost use Rattle.spl_outside.specs.Causes.{Counts};
+ghost use Rattle.session_model.specs.Draws.{wide, tree_roots, roots_of};
 ghost use Rattle.client_rounds.specs.Draws.{Draws};
 
 use crate::roots::Roots;
-use spl_outside::{Draw, Stop};
+use spl_outside::{Draw, Failed, Stop};
 use std::alloc::Global;
 
-/// Draws a word.
-fn draw_word<R: Draw>(draw: &mut R) -> Result<u64, Stop>
-    ensures told { IfSome (R.words draw.old) (λ ws. Draws 1 (λ vs n. n ≡ word_at 0 vs) ws (R.words draw.new) result) }
-    ensures cause { HasCause (R.faults draw.old) (R.faults draw.new) (IsErrOf result Stop.Failed) }
-{
-    match draw.word() {
-        Ok(word) => Ok(word),
-        Err(_) => Err(Stop::Failed),
-    }
-}
-
 /// Draws a number of 128 bits, as two words, the high one first.
-fn draw_wide<R: Draw>(draw: &mut R) -> Result<u128, Stop>
+fn draw_wide<R: Draw>(draw: &mut R) -> Result<u128, Failed>
     ensures told { IfSome (R.words draw.old) (λ ws. Draws 2 (λ vs n. n ≡ wide vs) ws (R.words draw.new) result) }
-    ensures cause { HasCause (R.faults draw.old) (R.faults draw.new) (IsErrOf result Stop.Failed) }
+    ensures cause { Counts (R.faults draw.old) (R.faults draw.new) (IsErr result) }
 {
-    let high = draw_word(draw)?;
-    let low = draw_word(draw)?;
+    let high = draw.word()?;
+    let low = draw.word()?;
     Ok((u128::from(high) << 64) + u128::from(low))
 }
 
 /// Draws the roots of a tree, that of `Zero` first.
-fn draw_tree<R: Draw>(draw: &mut R) -> Result<(u128, u128), Stop>
+fn draw_tree<R: Draw>(draw: &mut R) -> Result<(u128, u128), Failed>
     ensures told { IfSome (R.words draw.old) (λ ws. Draws 4 (λ vs r. r ≡ tree_roots vs) ws (R.words draw.new) result) }
-    ensures cause { HasCause (R.faults draw.old) (R.faults draw.new) (IsErrOf result Stop.Failed) }
+    ensures cause { Counts (R.faults draw.old) (R.faults draw.new) (IsErr result) }
 {
     let zero = draw_wide(draw)?;
     let one = draw_wide(draw)?;
@@ -43,15 +32,18 @@ fn draw_tree<R: Draw>(draw: &mut R) -> Result<(u128, u128), Stop>
 ///
 /// # Errors
 ///
-/// `Failed` only where the source failed; `OutOfMemory`.
+/// `Failed` exactly where the source failed; `OutOfMemory`.
 pub fn draw_roots<R: Draw>(alloc: Global, draw: &mut R, count: u32) -> Result<Roots, Stop>
     ensures told { IfSome (R.words draw.old) (λ ws. Draws (4 * count) (λ vs r. r ≡ roots_of count vs) ws (R.words draw.new) result) }
     ensures count { IfOk result (λ roots. length roots ≡ count) }
-    ensures cause { HasCause (R.faults draw.old) (R.faults draw.new) (IsErrOf result Stop.Failed) }
+    ensures cause { Counts (R.faults draw.old) (R.faults draw.new) (IsErrOf result Stop.Failed) }
 {
     let mut roots = Roots::new(alloc);
     for _ in 0..count {
-        let tree = draw_tree(draw)?;
+        let tree = match draw_tree(draw) {
+            Ok(tree) => tree,
+            Err(Failed) => return Err(Stop::Failed),
+        };
         match roots.push(tree) {
             Ok(()) => {}
             Err(_) => return Err(Stop::OutOfMemory),
@@ -72,9 +64,12 @@ pub(crate) struct Drawn {
 pub(crate) fn draw_session<R: Draw>(alloc: Global, draw: &mut R, count: u32) -> Result<Drawn, Stop>
     ensures told { IfSome (R.words draw.old) (λ ws. Draws (2 + 4 * count) (λ vs d. (d.session ≡ wide vs) × (d.roots ≡ roots_of count (drop 2 vs))) ws (R.words draw.new) result) }
     ensures count { IfOk result (λ drawn. length drawn.roots ≡ count) }
-    ensures cause { HasCause (R.faults draw.old) (R.faults draw.new) (IsErrOf result Stop.Failed) }
+    ensures cause { Counts (R.faults draw.old) (R.faults draw.new) (IsErrOf result Stop.Failed) }
 {
-    let session = draw_wide(draw)?;
+    let session = match draw_wide(draw) {
+        Ok(session) => session,
+        Err(Failed) => return Err(Stop::Failed),
+    };
     let roots = draw_roots(alloc, draw, count)?;
     Ok(Drawn { session, roots })
 }

@@ -1,11 +1,10 @@
 //! Why a client stops.
 ghost use Rattle.std.specs.Prelude.{◌≡◌};
 ghost use Rattle.client_rounds.specs.declared.faults.AskFault.TheVariants as ask;
-ghost use Rattle.client_rounds.specs.Faults.{query_fault, param_fault, secret_fault, draw_stop};
+ghost use Rattle.client_rounds.specs.Faults.{query_fault, param_fault};
 
-use private_plan::{PlanKind, SecretFault};
+use private_plan::PlanKind;
 use query_reader::{ParamFault, QueryFault};
-use spl_outside::Stop;
 use spl_words::{Differ, FrameFault, Provider};
 use std::alloc::AllocError;
 
@@ -20,7 +19,7 @@ pub enum Source {
     Second,
 }
 
-/// Why a client doesn't begin a session, go on with it or end it. Want of memory is in none of the faults inside.
+/// Why a client doesn't go on with a session or end it. Want of memory is in none of the faults inside.
 #[derive(Debug, Drop)]
 pub enum AskFault {
     /// The query isn't read, or isn't accepted for the shape.
@@ -36,8 +35,6 @@ pub enum AskFault {
     Differ(Differ),
     /// The combined word of that number, from 0, can't stand in an answer.
     BadWord(u32, u64),
-    /// The source of random words failed.
-    DrawFault,
     /// Queries with such a plan aren't answered yet.
     NotBuilt(PlanKind),
     /// There was no memory for it.
@@ -70,28 +67,6 @@ impl From<ParamFault> for AskFault {
         match fault {
             ParamFault::OutOfMemory => AskFault::OutOfMemory,
             fault => AskFault::Param(fault),
-        }
-    }
-}
-
-impl From<SecretFault> for AskFault {
-    ghost from_gives = { λ fault e. e ≡ secret_fault fault };
-
-    fn from(fault: SecretFault) -> Self {
-        match fault {
-            SecretFault::BadCount(number, found, _) => AskFault::BadWord(number, found),
-            SecretFault::OutOfMemory => AskFault::OutOfMemory,
-        }
-    }
-}
-
-impl From<Stop> for AskFault {
-    ghost from_gives = { λ stop e. e ≡ draw_stop stop };
-
-    fn from(stop: Stop) -> Self {
-        match stop {
-            Stop::Failed => AskFault::DrawFault,
-            Stop::OutOfMemory => AskFault::OutOfMemory,
         }
     }
 }

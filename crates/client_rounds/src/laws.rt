@@ -31,6 +31,7 @@ ghost use Rattle.session_model.specs.Answers.{answer_frame};
 ghost use Rattle.session_model.specs.Sessions.{key_frame, key_bytes, note, note_bytes, round_answer, clear_text};
 ghost use Rattle.client_rounds.specs.Asked.{IsAsked};
 ghost use Rattle.client_rounds.specs.Expanding.{GivesSeeds};
+ghost use Rattle.client_rounds.specs.Rounds.{round_length};
 ghost use Rattle.client_rounds.specs.Finishing.{finished};
 
 use judged_queries::laws::canonical_text_is_accepted;
@@ -50,6 +51,12 @@ pub fn sum_plan_has_sums()
 /// A query of counts, sums and means asks for 1 to 16 trees.
 pub fn sums_ask_for_few_trees()
     ensures { (checked : TheChecked) (shape : ShapeParts) (params : List ℕ) → IsAsked checked shape params → (1 ≤ length (sum_secrets checked shape.schema.columns params)) × (length (sum_secrets checked shape.schema.columns params) ≤ 16) }
+{}
+
+/// A key frame of a first round has as many bytes as the plan tells, whichever words were drawn.
+pub fn key_frames_are_as_long_as_planned()
+    ensures { (e : Meaning) (p : TheProvider) (checked : TheChecked) (shape : ShapeParts) (params words : List ℕ) → IsAsked checked shape params → list_all is_sum checked.spec.items ≡ true
+        → length (key_bytes e p checked shape params words) ≡ round_length checked shape }
 {}
 
 /// Parameters, whether given as words or as codes, are at most 255.

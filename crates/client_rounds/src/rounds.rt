@@ -1,7 +1,8 @@
 //! The key frames of a round.
-ghost use Rattle.std.specs.Prelude.{◌≡◌, ◌+◌, ◌<◌, ◌≤◌, ◌^◌, length, IfOk};
+ghost use Rattle.std.specs.Prelude.{◌≡◌, ◌+◌, ◌<◌, ◌≤◌, ◌^◌, length, map, IfOk};
 ghost use Rattle.spl_words.specs.declared.provider.Provider.TheVariants.{Zero, One};
-ghost use Rattle.session_model.specs.KeyLists.{key_of, key_list};
+ghost use Rattle.private_plan.specs.Slots.{secret_tree};
+ghost use Rattle.session_model.specs.KeyLists.{key_of, key_list, key_tree};
 ghost use Rattle.session_model.specs.Sessions.{frame_of};
 
 use crate::roots::Roots;
@@ -147,6 +148,8 @@ pub fn round_frames<E: Expander>(
     requires trees { head.now.first_tree + length secrets.now ≤ 2 ^ 32 }
     ensures zero { IfOk result (λ frames. frames.0 ≡ frame_of (E.meaning expander.now) Zero head.now.session head.now.round head.now.first_tree head.now.query head.now.shape secrets.now roots.now) }
     ensures one { IfOk result (λ frames. frames.1 ≡ frame_of (E.meaning expander.now) One head.now.session head.now.round head.now.first_tree head.now.query head.now.shape secrets.now roots.now) }
+    // The keys of both are of their secrets' trees, of which the length of a frame is a sum.
+    ensures trees { IfOk result (λ frames. (map key_tree frames.0.keys ≡ map secret_tree secrets.now) × (map key_tree frames.1.keys ≡ map secret_tree secrets.now)) }
 {
     let (zeros, ones) = key_lists(
         alloc,

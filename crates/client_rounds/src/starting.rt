@@ -1,8 +1,8 @@
 //! The first round of a session.
-ghost use Rattle.std.specs.Prelude.{◌≡◌, ◌⊎◌, ◌≤◌, ◌<◌, ℕ, List, true, None, length, replicate, IfSome, IfOk, IfErr, IsErrOf};
+ghost use Rattle.std.specs.Prelude.{◌≡◌, ◌≤◌, ◌<◌, ℕ, List, true, None, length, replicate, IfSome, IfOk, IsErrOf};
 ghost use Rattle.std.specs.List.{list_all, position};
 ghost use Rattle.sha2.specs.Sha256.{sha256};
-ghost use Rattle.spl_outside.specs.Causes.{HasCause};
+ghost use Rattle.spl_outside.specs.Causes.{Counts};
 ghost use Rattle.query_reader.specs.Accepted.{IsCheckedFor};
 ghost use Rattle.query_reader.specs.Params.{AreParamsFor};
 ghost use Rattle.key_frames.specs.Frames.{FrameAllowed, KeyFrameOf};
@@ -13,17 +13,15 @@ ghost use Rattle.private_plan.specs.Slots.{sum_secrets};
 ghost use Rattle.session_model.specs.Draws.{wide};
 ghost use Rattle.session_model.specs.Sessions.{session_roots};
 ghost use Rattle.client_rounds.specs.Draws.{Draws};
-ghost use Rattle.client_rounds.specs.Rounds.{words_taken, IsRoundOf, IsRound};
-ghost use Rattle.client_rounds.specs.declared.faults.AskFault.TheVariants as ask;
+ghost use Rattle.client_rounds.specs.Rounds.{words_taken, round_length, IsRoundOf, IsRound};
 
 use crate::draws::{Drawn, draw_session};
-use crate::faults::AskFault;
 use crate::rounds::{RoundHead, round_frames};
 use key_frames::{KeyFrame, Note, frame_digest, write_key_frame, write_note};
 use private_plan::{Plan, Secrets, plan, round_secrets};
 use query_reader::{Checked, Params, print_query};
 use seed_expansion::Expander;
-use spl_outside::Draw;
+use spl_outside::{Draw, Stop};
 use spl_values::{Bytes, Shape};
 use spl_words::Numbers;
 use std::alloc::{AllocError, Global};
@@ -127,7 +125,7 @@ fn round_with<E: Expander>(
 ///
 /// # Errors
 ///
-/// `DrawFault` only where the source failed; `OutOfMemory`.
+/// `Failed` exactly where the source failed; `OutOfMemory`.
 pub fn start<E: Expander, R: Draw>(
     alloc: Global,
     expander: &E,
@@ -135,7 +133,7 @@ pub fn start<E: Expander, R: Draw>(
     params: &Params,
     shape: &Shape,
     draw: &mut R,
-) -> Result<RoundOut, AskFault>
+) -> Result<RoundOut, Stop>
     requires accepted { IsCheckedFor checked.now shape.now.schema }
     requires params { AreParamsFor checked.now shape.now.schema params.now }
     requires few { length params.now ≤ 255 }
@@ -143,16 +141,24 @@ pub fn start<E: Expander, R: Draw>(
     ensures told { IfSome (R.words draw.old) (λ ws. Draws (words_taken checked.now shape.now params.now) (IsRoundOf (E.meaning expander.now) checked.now shape.now params.now) ws (R.words draw.new) result) }
     // Also where the words aren't told.
     ensures some { IfOk result (IsRound (E.meaning expander.now) checked.now shape.now params.now) }
-    ensures only { IfErr result (λ e. (e ≡ ask.DrawFault) ⊎ (e ≡ ask.OutOfMemory)) }
-    ensures cause { HasCause (R.faults draw.old) (R.faults draw.new) (IsErrOf result ask.DrawFault) }
+    // Both key frames are as long as the plan tells.
+    ensures lengths { IfOk result (λ out. (length out.left ≡ round_length checked.now shape.now) × (length out.right ≡ round_length checked.now shape.now)) }
+    ensures cause { Counts (R.faults draw.old) (R.faults draw.new) (IsErrOf result Stop.Failed) }
 {
     // What a query and a shape keep is known once they are read.
     checked.query.facts();
     let _ = &shape.schema;
-    let plan = plan(alloc, checked, shape)?;
-    let secrets = round_secrets(alloc, &plan, checked, shape, params, 1, &[])?;
+    let Ok(plan) = plan(alloc, checked, shape) else {
+        return Err(Stop::OutOfMemory);
+    };
+    let Ok(secrets) = round_secrets(alloc, &plan, checked, shape, params, 1, &[]) else {
+        return Err(Stop::OutOfMemory);
+    };
     let drawn = draw_session(alloc, draw, secrets.as_slice().len() as u32)?;
-    Ok(round_with(
+    match round_with(
         alloc, expander, checked, params, shape, &plan, &secrets, &drawn,
-    )?)
+    ) {
+        Ok(round) => Ok(round),
+        Err(_) => Err(Stop::OutOfMemory),
+    }
 }

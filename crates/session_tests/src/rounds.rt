@@ -6,12 +6,12 @@ ghost use Rattle.query_reader.specs.Params.{AreParamsFor};
 ghost use Rattle.private_plan.specs.Plans.{is_sum};
 
 use client_rounds::laws::sum_plan_has_sums;
-use client_rounds::{AskFault, Roots, RoundHead, RoundOut, draw_roots, round_frames, start};
+use client_rounds::{Roots, RoundHead, RoundOut, draw_roots, round_frames, start};
 use key_frames::{Key, KeyFrame, read_key_frame, read_note};
 use private_plan::{PlanKind, Secrets, plan};
 use query_reader::{Checked, Params, check_query, params_of_words, read_query};
 use seed_expansion::ToyExpander;
-use spl_outside::{Draw, MemoryDraw, SteadyDraw};
+use spl_outside::{Draw, MemoryDraw, SteadyDraw, Stop};
 use spl_values::{Bytes, Schema, Shape, read_shape};
 use spl_words::{Provider, TreeKind, TreeSecret};
 use std::alloc::Global;
@@ -69,7 +69,7 @@ fn begun<R: Draw>(
     query: &str,
     words: &[&str],
     draw: &mut R,
-) -> Result<Result<RoundOut, AskFault>, Fail> {
+) -> Result<Result<RoundOut, Stop>, Fail> {
     let shape = read_shape(alloc, SHAPE.as_bytes())?;
     let checked = checked_of(alloc, &shape.schema, query)?;
     let params = params_of(alloc, &checked, &shape.schema, words)?;
@@ -218,7 +218,7 @@ fn each_draw_may_fail(rt: HostRuntime) -> Result<(), Fail> {
         let mut draw = MemoryDraw::new(words, vec![in alloc; failing]?);
         let result = begun(alloc, EQUAL, &["1"], &mut draw)?;
         assert!(rt;
-            matches!(result, Err(AskFault::DrawFault)),
+            matches!(result, Err(Stop::Failed)),
             "call {failing}"
         );
     }

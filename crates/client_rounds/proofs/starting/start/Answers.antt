@@ -1,24 +1,34 @@
-use Rattle.std.proofs.Common.{◌∙◌, length, ap, arith}
-use Rattle.std.proofs.lemmas.Result.{err_from_is_err_and}
-use Rattle.client_rounds.specs.Rounds.{words_taken}
-use Rattle.client_rounds.proofs.Drawing.{none_drawn}
+use Rattle.std.proofs.Common.{◌∙◌, length, ap, arith, subst}
+use Rattle.spl_words.specs.declared.provider.Provider.TheVariants.{Zero, One}
+use Rattle.spl_values.specs.Shapes.{IsShape}
+use Rattle.client_rounds.specs.declared.starting.RoundOut.{RoundOut}
+use Rattle.client_rounds.specs.Asked.{IsAsked}
 use Rattle.client_rounds.proofs.Trees.{tree_count}
 use Rattle.client_rounds.proofs.Begun.{words_for, session_back, roots_again}
+use Rattle.client_rounds.proofs.FrameLengths.{round_is}
 use Rattle.client_rounds.proofs.starting.start.Goals as goal
 
 pub overflow_cast-as_slice : goal.overflow_cast-as_slice
 overflow_cast-as_slice g c =
     let few = tree_count c.args.checked.now c.args.shape.now.schema c.args.params.now c.requires.accepted c.facts.ensures.form c.requires.params in
-    omega (arith, ap length (c.as_slice.ensures ∙ c.in_ok-secrets.ensures.ok), few.1)
+    omega (arith, ap length (c.as_slice.ensures ∙ c.in-Ok-round_secrets.ensures.ok), few.1)
 
-pub returns-clause-some : goal.returns-clause-some
-returns-clause-some g c =
+pub returns-in-Ok-round_with-clause-some : goal.returns-in-Ok-round_with-clause-some
+returns-in-Ok-round_with-clause-some g c =
     let count = c.in_ok-drawn.ensures.count ∙ ap length c.as_slice.ensures in
     let session = c.in_ok-drawn.drawn.session in
     let roots = c.in_ok-drawn.drawn.roots in
-    (words_for session roots, c.in_ok-round_with.ensures (words_for session roots) (session_back session roots) (roots_again session c.in_ok-secrets.secrets roots count))
+    (words_for session roots, c.in-Ok-round_with.ensures (words_for session roots) (session_back session roots) (roots_again session c.in-Ok-round_secrets.secrets roots count))
 
-pub returns-in_err-secrets-clause-told : goal.returns-in_err-secrets-clause-told
-returns-in_err-secrets-clause-told g c =
-    let failed = err_from_is_err_and c.from_residual-in_err-secrets.result c.from_residual-in_err-secrets.ensures.1 in
-    rw failed.1 (none_drawn (words_taken c.args.checked.now c.args.shape.now c.args.params.now) (g.R.Draw.words c.args.draw.now))
+pub returns-in-Ok-round_with-clause-lengths : goal.returns-in-Ok-round_with-clause-lengths
+returns-in-Ok-round_with-clause-lengths g c =
+    let count = c.in_ok-drawn.ensures.count ∙ ap length c.as_slice.ensures in
+    let session = c.in_ok-drawn.drawn.session in
+    let roots = c.in_ok-drawn.drawn.roots in
+    let words = words_for session roots in
+    let of = c.in-Ok-round_with.ensures words (session_back session roots) (roots_again session c.in-Ok-round_secrets.secrets roots count) in
+    let asked : IsAsked c.args.checked.now c.args.shape.now c.args.params.now = record { valid = subst IsShape c.shape.view_is c.shape.invariant; form = c.facts.ensures; accepted = c.requires.accepted; known = c.requires.params } in
+    let e = g.E.Expander.meaning c.args.expander.now in (
+      ap (λ (o : RoundOut). length o.left) of.is ∙ round_is e Zero c.args.checked.now c.args.shape.now c.args.params.now words asked c.requires.sums,
+      ap (λ (o : RoundOut). length o.right) of.is ∙ round_is e One c.args.checked.now c.args.shape.now c.args.params.now words asked c.requires.sums,
+    )
