@@ -55,8 +55,8 @@ pub fn sums_ask_for_few_trees()
 
 /// A key frame of a first round has as many bytes as the plan tells, whichever words were drawn.
 pub fn key_frames_are_as_long_as_planned()
-    ensures { (e : Meaning) (p : TheProvider) (checked : TheChecked) (shape : ShapeParts) (params words : List ℕ) → IsAsked checked shape params → list_all is_sum checked.spec.items ≡ true
-        → length (key_bytes e p checked shape params words) ≡ round_length checked shape }
+    ensures { (e : Meaning) (p : TheProvider) (checked : TheChecked) (shape : ShapeParts) (params words bytes : List ℕ) → IsAsked checked shape params → list_all is_sum checked.spec.items ≡ true
+        → KeyFrameOf bytes (key_frame e p checked shape params words) → length bytes ≡ round_length checked shape }
 {}
 
 /// Parameters, whether given as words or as codes, are at most 255.

@@ -1,7 +1,6 @@
 use Rattle.std.proofs.Common.{◌∙◌, length, ap, arith, subst}
 use Rattle.spl_words.specs.declared.provider.Provider.TheVariants.{Zero, One}
 use Rattle.spl_values.specs.Shapes.{IsShape}
-use Rattle.client_rounds.specs.declared.starting.RoundOut.{RoundOut}
 use Rattle.client_rounds.specs.Asked.{IsAsked}
 use Rattle.client_rounds.proofs.Trees.{tree_count}
 use Rattle.client_rounds.proofs.Begun.{words_for, session_back, roots_again}
@@ -28,7 +27,6 @@ returns-in-Ok-round_with-clause-lengths g c =
     let words = words_for session roots in
     let of = c.in-Ok-round_with.ensures words (session_back session roots) (roots_again session c.in-Ok-round_secrets.secrets roots count) in
     let asked : IsAsked c.args.checked.now c.args.shape.now c.args.params.now = record { valid = subst IsShape c.shape.view_is c.shape.invariant; form = c.facts.ensures; accepted = c.requires.accepted; known = c.requires.params } in
-    let e = g.E.Expander.meaning c.args.expander.now in (
-      ap (λ (o : RoundOut). length o.left) of.is ∙ round_is e Zero c.args.checked.now c.args.shape.now c.args.params.now words asked c.requires.sums,
-      ap (λ (o : RoundOut). length o.right) of.is ∙ round_is e One c.args.checked.now c.args.shape.now c.args.params.now words asked c.requires.sums,
-    )
+    let e = g.E.Expander.meaning c.args.expander.now in
+    let round = c.in-Ok-round_with.round in
+    (round_is e Zero c.args.checked.now c.args.shape.now c.args.params.now words round.left asked c.requires.sums of.left, round_is e One c.args.checked.now c.args.shape.now c.args.params.now words round.right asked c.requires.sums of.right)
