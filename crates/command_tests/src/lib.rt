@@ -1,21 +1,10 @@
-//! Tests of the command line.
+//! Tests of the command line that no case can say: what its words mean, statuses that no
+//! command ends with, and real files, random words and output.
 #![tactic(auto)]
 
 #[cfg(test)]
-mod failing_calls;
-#[cfg(test)]
 mod host_forms;
 #[cfg(test)]
-mod refusals;
-#[cfg(test)]
-mod runs;
-#[cfg(test)]
-mod sessions;
-#[cfg(test)]
 mod statuses;
-#[cfg(test)]
-mod steps;
-#[cfg(test)]
-mod traces;
 #[cfg(test)]
 mod words;

@@ -1,11 +1,10 @@
-//! Tests of a provider's answer and of a client's session.
+//! Tests of a provider's answer and of a client's session that no case can say: those over the toy expander, whose
+//! words were worked by hand, and those of a second round.
 #![tactic(auto)]
 
 #[cfg(test)]
 mod answering;
 #[cfg(test)]
 mod combining;
-#[cfg(test)]
-mod finishing;
 #[cfg(test)]
 mod rounds;

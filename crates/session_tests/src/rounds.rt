@@ -7,13 +7,13 @@ ghost use Rattle.private_plan.specs.Plans.{is_sum};
 
 use client_rounds::laws::sum_plan_has_sums;
 use client_rounds::{Roots, RoundHead, RoundOut, draw_roots, round_frames, start};
-use key_frames::{Key, KeyFrame, read_key_frame, read_note};
+use key_frames::{Key, KeyFrame};
 use private_plan::{PlanKind, Secrets, plan};
 use query_reader::{Checked, Params, check_query, params_of_words, read_query};
 use seed_expansion::ToyExpander;
-use spl_outside::{Draw, MemoryDraw, SteadyDraw, Stop};
+use spl_outside::SteadyDraw;
 use spl_values::{Bytes, Schema, Shape, read_shape};
-use spl_words::{Provider, TreeKind, TreeSecret};
+use spl_words::{TreeKind, TreeSecret};
 use std::alloc::Global;
 use std::test::Fail;
 
@@ -21,30 +21,20 @@ const SHAPE: &str = "table t\nrows 3\na UINT(1)\nb UINT(4)\n";
 
 const EQUAL: &str = "SELECT COUNT(*) FROM t WHERE a = ?";
 
-const BETWEEN: &str = "SELECT COUNT(*), SUM(b) FROM t WHERE b BETWEEN ? AND ?";
-
-fn checked_of(alloc: Global, schema: &Schema, query: &str) -> Result<Checked, Fail>
+fn checked_of(alloc: Global, schema: &Schema) -> Result<Checked, Fail>
     ensures { IfOk result (λ checked. IsCheckedFor checked schema.now) }
 {
-    let query = read_query(alloc, query)?;
+    let query = read_query(alloc, EQUAL)?;
     Ok(check_query(alloc, &query, schema)?)
 }
 
-fn params_of(
-    alloc: Global,
-    checked: &Checked,
-    schema: &Schema,
-    words: &[&str],
-) -> Result<Params, Fail>
+fn params_of(alloc: Global, checked: &Checked, schema: &Schema) -> Result<Params, Fail>
     requires { IsCheckedFor checked.now schema.now }
     ensures known { IfOk result (λ params. AreParamsFor checked.now schema.now params) }
     ensures few { IfOk result (λ params. length params ≤ 255) }
 {
-    let mut texts = Vec::new(alloc);
-    for word in words {
-        texts.push(word.to_string(alloc)?)?;
-    }
-    let params = params_of_words(alloc, checked, schema, &texts)?;
+    let words = vec![in alloc; "1".to_string(alloc)?]?;
+    let params = params_of_words(alloc, checked, schema, &words)?;
     if params.as_slice().len() > 255 {
         return Err(Fail::new("too many parameters"));
     }
@@ -63,24 +53,29 @@ fn see_sums(alloc: Global, checked: &Checked, shape: &Shape) -> Result<(), Fail>
     }
 }
 
-/// The first round of a query of sums.
-fn begun<R: Draw>(
+/// The first round of an accepted query of sums, with these words drawn.
+fn round_of(
     alloc: Global,
-    query: &str,
-    words: &[&str],
-    draw: &mut R,
-) -> Result<Result<RoundOut, Stop>, Fail> {
-    let shape = read_shape(alloc, SHAPE.as_bytes())?;
-    let checked = checked_of(alloc, &shape.schema, query)?;
-    let params = params_of(alloc, &checked, &shape.schema, words)?;
-    see_sums(alloc, &checked, &shape)?;
-    Ok(start(alloc, &ToyExpander, &checked, &params, &shape, draw))
+    shape: &Shape,
+    checked: &Checked,
+    params: &Params,
+    drawn: &[u64],
+) -> Result<RoundOut, Fail>
+    requires checked { IsCheckedFor checked.now shape.now.schema }
+    requires params { AreParamsFor checked.now shape.now.schema params.now }
+    requires few { length params.now ≤ 255 }
+{
+    see_sums(alloc, checked, shape)?;
+    let mut draw = SteadyDraw::new(Vec::from_slice(alloc, drawn)?);
+    Ok(start(alloc, &ToyExpander, checked, params, shape, &mut draw)?)
 }
 
-/// The same, with these words drawn.
-fn begun_with(alloc: Global, query: &str, words: &[&str], drawn: &[u64]) -> Result<RoundOut, Fail> {
-    let mut draw = SteadyDraw::new(Vec::from_slice(alloc, drawn)?);
-    Ok(begun(alloc, query, words, &mut draw)??)
+/// The first round of the query with the parameter 1, and these words drawn.
+fn begun(alloc: Global, drawn: &[u64]) -> Result<RoundOut, Fail> {
+    let shape = read_shape(alloc, SHAPE.as_bytes())?;
+    let checked = checked_of(alloc, &shape.schema)?;
+    let params = params_of(alloc, &checked, &shape.schema)?;
+    round_of(alloc, &shape, &checked, &params, drawn)
 }
 
 /// The parts one behind the other.
@@ -153,92 +148,29 @@ fn note_by_hand(alloc: Global) -> Result<Vec<u8>, Fail> {
     )
 }
 
-// The words 1 and 2 make the session, and the roots are 1 and 2. The keys are those of the worked pair of one bit.
-#[test]
-fn a_round_by_hand(rt: HostRuntime) -> Result<(), Fail> {
-    let alloc = rt.alloc();
-    let out = begun_with(alloc, EQUAL, &["1"], &[1, 2, 0, 1, 0, 2])?;
+/// Whether the first round of a query is the one worked by hand: the words 1 and 2 make the session, the roots are 1
+/// and 2, and the keys are those of the worked pair of one bit.
+fn is_by_hand(alloc: Global, out: &RoundOut) -> Result<bool, Fail> {
     let left = frame_by_hand(alloc, b"SPLK\x01\x01\x00", b"\x01", &ZERO_END)?;
     let right = frame_by_hand(alloc, b"SPLK\x01\x01\x01", b"\x02", &ONE_END)?;
-    let note = note_by_hand(alloc)?;
-    assert_eq!(rt; out.left.as_slice(), left.as_slice());
-    assert_eq!(rt; out.right.as_slice(), right.as_slice());
-    assert_eq!(rt; out.note.as_slice(), note.as_slice());
-    assert_eq!(rt; (out.round, out.rounds), (1, 1));
-    Ok(())
-}
-
-/// The kind, the root and the number of levels of each key of a frame.
-fn keys_of(alloc: Global, frame: &KeyFrame) -> Result<Vec<(TreeKind, u128, usize)>, Fail> {
-    let mut keys = Vec::new(alloc);
-    for key in frame.keys.as_slice() {
-        keys.push(match key {
-            Key::Point(key) => (TreeKind::Point, key.root, key.levels.len()),
-            Key::Threshold(key) => (TreeKind::Threshold, key.root, key.levels.len()),
-        })?;
-    }
-    Ok(keys)
-}
-
-// A range has two trees. Each of their roots is drawn with its high word first, that of Zero before that of One.
-#[test]
-fn a_round_is_read_back(rt: HostRuntime) -> Result<(), Fail> {
-    let alloc = rt.alloc();
-    let out = begun_with(
-        alloc,
-        BETWEEN,
-        &["3", "9"],
-        &[0, 7, 1, 11, 2, 12, 3, 13, 4, 14],
-    )?;
-    let zero = read_key_frame(alloc, out.left.as_slice())?;
-    let one = read_key_frame(alloc, out.right.as_slice())?;
-    let note = read_note(alloc, out.note.as_slice())?;
-    assert_eq!(rt; (zero.session, one.session, note.session), (7, 7, 7));
-    assert!(rt; zero.provider == Provider::Zero && one.provider == Provider::One);
-    let threshold = TreeKind::Threshold;
-    let zeros = [
-        (threshold, (1 << 64) + 11, 4),
-        (threshold, (3 << 64) + 13, 4),
-    ];
-    let ones = [
-        (threshold, (2 << 64) + 12, 4),
-        (threshold, (4 << 64) + 14, 4),
-    ];
-    assert_eq!(rt; keys_of(alloc, &zero)?.as_slice(), zeros.as_slice());
-    assert_eq!(rt; keys_of(alloc, &one)?.as_slice(), ones.as_slice());
-    assert_eq!(rt; note.params.as_slice(), [3, 9].as_slice());
-    Ok(())
+    Ok(
+        out.left.as_slice() == left.as_slice()
+            && out.right.as_slice() == right.as_slice()
+            && out.note.as_slice() == note_by_hand(alloc)?.as_slice()
+            && (out.round, out.rounds) == (1, 1),
+    )
 }
 
 #[test]
-fn each_draw_may_fail(rt: HostRuntime) -> Result<(), Fail> {
-    let alloc = rt.alloc();
-    for failing in 1..=6 {
-        let words = vec![in alloc; 1, 2, 3, 4, 5, 6]?;
-        let mut draw = MemoryDraw::new(words, vec![in alloc; failing]?);
-        let result = begun(alloc, EQUAL, &["1"], &mut draw)?;
-        assert!(rt;
-            matches!(result, Err(Stop::Failed)),
-            "call {failing}"
-        );
-    }
-    for (count, done) in [(5, false), (6, true)] {
-        let mut draw = MemoryDraw::new(vec![in alloc; 9; count]?, Vec::new(alloc));
-        let result = begun(alloc, EQUAL, &["1"], &mut draw)?;
-        assert_eq!(rt; result.is_ok(), done, "{count} words");
-    }
+fn a_round_by_hand(rt: HostRuntime) -> Result<(), Fail> {
+    let out = begun(rt.alloc(), &[1, 2, 0, 1, 0, 2])?;
+    assert!(rt; is_by_hand(rt.alloc(), &out)?);
     Ok(())
 }
 
-// A tree may have the last number there is.
-#[test]
-fn a_later_round_has_frames(rt: HostRuntime) -> Result<(), Fail> {
-    let alloc = rt.alloc();
-    let mut draw = SteadyDraw::new(vec![in alloc; 0, 1, 0, 2]?);
-    let Ok(roots) = draw_roots(alloc, &mut draw, 1) else {
-        return Err(Fail::new("no roots"));
-    };
-    assert_eq!(rt; roots.as_slice(), [(1, 2)].as_slice());
+/// The frames of a second round of one point tree of one level, with the roots 1 and 2 and the last number that a
+/// tree may have.
+fn later_frames(alloc: Global, roots: Roots) -> Result<(KeyFrame, KeyFrame), Fail> {
     let secret = TreeSecret {
         kind: TreeKind::Point,
         depth: 1,
@@ -253,17 +185,34 @@ fn a_later_round_has_frames(rt: HostRuntime) -> Result<(), Fail> {
         shape: read_shape(alloc, SHAPE.as_bytes())?,
     };
     let secrets = Secrets::from_vec(vec![in alloc; secret]?);
-    let roots = Roots::from_vec(vec![in alloc; (1, 2)]?);
-    let (zero, one) = round_frames(alloc, &ToyExpander, &head, &secrets, &roots)?;
-    assert_eq!(rt; (zero.round, one.round), (2, 2));
-    assert_eq!(rt; (zero.session, one.session), (5, 5));
-    assert_eq!(rt;
-        keys_of(alloc, &zero)?.as_slice(),
-        [(TreeKind::Point, 1, 1)].as_slice()
-    );
-    assert_eq!(rt;
-        keys_of(alloc, &one)?.as_slice(),
-        [(TreeKind::Point, 2, 1)].as_slice()
-    );
+    Ok(round_frames(alloc, &ToyExpander, &head, &secrets, &roots)?)
+}
+
+/// Whether a frame is of the second round, with one point key of one level and this root.
+fn is_later(frame: &KeyFrame, root: u128) -> bool {
+    match frame.keys.as_slice() {
+        [Key::Point(key)] => {
+            frame.session == 5 && frame.round == 2 && key.root == root && key.levels.len() == 1
+        }
+        _ => false,
+    }
+}
+
+#[test]
+fn a_later_round_has_frames(rt: HostRuntime) -> Result<(), Fail> {
+    let roots = Roots::from_vec(vec![in rt.alloc(); (1, 2)]?);
+    let (zero, one) = later_frames(rt.alloc(), roots)?;
+    assert!(rt; is_later(&zero, 1) && is_later(&one, 2));
+    Ok(())
+}
+
+// A root is drawn with its high word first, that of Zero before that of One.
+#[test]
+fn roots_are_drawn_in_order(rt: HostRuntime) -> Result<(), Fail> {
+    let mut draw = SteadyDraw::new(vec![in rt.alloc(); 0, 1, 3, 2]?);
+    match draw_roots(rt.alloc(), &mut draw, 1) {
+        Ok(roots) => assert_eq!(rt; roots.as_slice(), [(1, (3 << 64) + 2)].as_slice()),
+        Err(_) => assert!(rt; false, "no roots"),
+    }
     Ok(())
 }
