@@ -13,3 +13,4 @@ pub mod Read
 pub mod Ends
 pub mod ParamCounts
 pub mod FrameLengths
+pub mod NoDraws

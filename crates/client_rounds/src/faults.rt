@@ -19,7 +19,7 @@ pub enum Source {
     Second,
 }
 
-/// Why a client doesn't go on with a session or end it. Want of memory is in none of the faults inside.
+/// Why a client doesn't begin a session, go on with it or end it. Want of memory is in none of the faults inside.
 #[derive(Debug, Drop)]
 pub enum AskFault {
     /// The query isn't read, or isn't accepted for the shape.
@@ -35,6 +35,8 @@ pub enum AskFault {
     Differ(Differ),
     /// The combined word of that number, from 0, can't stand in an answer.
     BadWord(u32, u64),
+    /// The source of random words failed: where a session is begun, and nowhere else.
+    DrawFault,
     /// Queries with such a plan aren't answered yet.
     NotBuilt(PlanKind),
     /// There was no memory for it.

@@ -1,5 +1,5 @@
 //! The end of a session.
-ghost use Rattle.std.specs.Prelude.{◌≡◌, All, length, IfOk};
+ghost use Rattle.std.specs.Prelude.{◌≡◌, All, length, IfOk, IsErrOf};
 ghost use Rattle.clear_sql.specs.AnswerText.{GroupFits};
 ghost use Rattle.combiner.specs.Combining.{combined};
 ghost use Rattle.combiner.specs.Finals.{last_words as words_of_last, final_of};
@@ -40,6 +40,7 @@ impl From<FinalFault> for AskFault {
 }
 
 /// The words that two answers add up to.
+#[tactic(auto, using(crate::proofs::NoDraws::combine_draws_none))]
 fn words_of(
     alloc: Global,
     judged: &Judged,
@@ -48,16 +49,19 @@ fn words_of(
 ) -> Result<Words, AskFault>
     ensures gives { Gives ask.OutOfMemory (λ words. words) result (or_ask combine_fault (combined judged.now.note a.now b.now (words_of_last judged.now.plan))) }
     ensures length { IfOk result (λ words. length words ≡ words_of_last judged.now.plan) }
+    ensures no_draw { IsErrOf result ask.DrawFault → ⊥ }
 {
     Ok(combine_words(alloc, &judged.note, a, b, last_words(&judged.plan))?)
 }
 
 /// The answer that combined words stand for.
+#[tactic(auto, using(crate::proofs::NoDraws::final_draws_none))]
 fn answer_of(alloc: Global, judged: &Judged, words: &[u64]) -> Result<Answer, AskFault>
     requires judged { IsJudged judged.now }
     requires words { length words.now ≡ words_of_last judged.now.plan }
     ensures gives { Gives ask.OutOfMemory (λ answer. answer.groups) result (or_ask final_fault (final_of judged.now.checked judged.now.note.shape words.now)) }
     ensures printable { IfOk result (λ answer. All (GroupFits judged.now.note.shape.schema.columns judged.now.checked.spec) answer.groups) }
+    ensures no_draw { IsErrOf result ask.DrawFault → ⊥ }
 {
     Ok(final_answer(
         alloc,
@@ -83,7 +87,9 @@ pub fn result_text(
 ) -> Result<Bytes, AskFault>
     requires { IsJudged judged.now }
     // What they come to, unless memory runs out.
-    ensures { Gives ask.OutOfMemory (λ text. text) result (result_of judged.now a.now b.now) }
+    ensures gives { Gives ask.OutOfMemory (λ text. text) result (result_of judged.now a.now b.now) }
+    // Ending a session draws nothing.
+    ensures no_draw { IsErrOf result ask.DrawFault → ⊥ }
 {
     let words = words_of(alloc, judged, a, b)?;
     let answer = answer_of(alloc, judged, words.as_slice())?;
@@ -95,7 +101,8 @@ pub fn result_text(
 #[tactic(auto, unfolding(crate::specs::Finishing::answered))]
 fn answers_text(alloc: Global, judged: &Judged, a: &[u8], b: &[u8]) -> Result<Bytes, AskFault>
     requires { IsJudged judged.now }
-    ensures { Gives ask.OutOfMemory (λ text. text) result (answered judged.now a.now b.now) }
+    ensures gives { Gives ask.OutOfMemory (λ text. text) result (answered judged.now a.now b.now) }
+    ensures no_draw { IsErrOf result ask.DrawFault → ⊥ }
 {
     let first = judge_answer(alloc, a, Source::First)?;
     let second = judge_answer(alloc, b, Source::Second)?;
@@ -112,7 +119,9 @@ fn answers_text(alloc: Global, judged: &Judged, a: &[u8], b: &[u8]) -> Result<By
 #[tactic(auto, unfolding(crate::specs::Finishing::finished))]
 pub fn finish(alloc: Global, note: &[u8], a: &[u8], b: &[u8]) -> Result<Bytes, AskFault>
     // What they come to, unless memory runs out.
-    ensures { Gives ask.OutOfMemory (λ text. text) result (finished note.now a.now b.now) }
+    ensures gives { Gives ask.OutOfMemory (λ text. text) result (finished note.now a.now b.now) }
+    // Ending a session draws nothing.
+    ensures no_draw { IsErrOf result ask.DrawFault → ⊥ }
 {
     let judged = judge_note(alloc, note)?;
     answers_text(alloc, &judged, a, b)

@@ -1,5 +1,5 @@
 //! What a note and an answer say.
-ghost use Rattle.std.specs.Prelude.{◌≡◌, IfOk};
+ghost use Rattle.std.specs.Prelude.{◌≡◌, IfOk, IsErrOf};
 ghost use Rattle.std.specs.Str.{IsAscii};
 ghost use Rattle.frame_fields.specs.Reading.{frame_at};
 ghost use Rattle.query_reader.specs.Accepted.{IsCheckedFor};
@@ -32,7 +32,8 @@ pub struct Judged {
 
 /// What a frame's fault is for a client.
 fn frame_fault(source: Source, fault: FrameFault) -> AskFault
-    ensures { result ≡ fault_of_frame source fault }
+    ensures is { result ≡ fault_of_frame source fault }
+    ensures no_draw { result ≡ ask.DrawFault → ⊥ }
 {
     match fault {
         FrameFault::OutOfMemory => AskFault::OutOfMemory,
@@ -44,6 +45,7 @@ fn frame_fault(source: Source, fault: FrameFault) -> AskFault
 fn note_of(alloc: Global, bytes: &[u8]) -> Result<Note, AskFault>
     ensures gives { Gives ask.OutOfMemory (λ note. note) result (or_ask (fault_of_frame Source.Note) (frame_at note_fields_at bytes.now)) }
     ensures ascii { IfOk result (λ note. IsAscii note.query) }
+    ensures no_draw { IsErrOf result ask.DrawFault → ⊥ }
 {
     match read_note(alloc, bytes) {
         Ok(note) => Ok(note),
@@ -52,10 +54,12 @@ fn note_of(alloc: Global, bytes: &[u8]) -> Result<Note, AskFault>
 }
 
 /// What is known of the note's query over the note's shape.
+#[tactic(auto, using(crate::proofs::NoDraws::query_draws_none))]
 fn checked_of(alloc: Global, note: &Note) -> Result<Checked, AskFault>
     requires { IsAscii note.now.query }
     ensures gives { Gives ask.OutOfMemory (λ checked. checked) result (or_ask query_fault (checked_in note.now.shape.schema note.now.query)) }
     ensures known { IfOk result (λ checked. IsCheckedFor checked note.now.shape.schema) }
+    ensures no_draw { IsErrOf result ask.DrawFault → ⊥ }
 {
     Ok(judge_query_bytes(alloc, &note.shape.schema, note.query.as_slice())?)
 }
@@ -64,6 +68,7 @@ fn checked_of(alloc: Global, note: &Note) -> Result<Checked, AskFault>
 fn check_built(kind: PlanKind) -> Result<(), AskFault>
     ensures is { result ≡ if_built kind }
     ensures built { IfOk result (λ _. kind ≡ PlanKind.Sum) }
+    ensures no_draw { IsErrOf result ask.DrawFault → ⊥ }
 {
     match kind {
         PlanKind::Sum => Ok(()),
@@ -74,10 +79,12 @@ fn check_built(kind: PlanKind) -> Result<(), AskFault>
 }
 
 /// The note's parameters.
+#[tactic(auto, using(crate::proofs::NoDraws::param_draws_none))]
 fn params_of(alloc: Global, note: &Note, checked: &Checked) -> Result<Params, AskFault>
     requires { IsCheckedFor checked.now note.now.shape.schema }
     ensures gives { Gives ask.OutOfMemory (λ params. params) result (or_ask param_fault (codes_in checked.now.query note.now.shape.schema note.now.params)) }
     ensures known { IfOk result (λ params. AreParamsFor checked.now note.now.shape.schema params) }
+    ensures no_draw { IsErrOf result ask.DrawFault → ⊥ }
 {
     Ok(judge_codes(alloc, checked, &note.shape.schema, note.params.as_slice())?)
 }
@@ -94,6 +101,8 @@ pub fn judge_note(alloc: Global, bytes: &[u8]) -> Result<Judged, AskFault>
     // What the bytes say, unless memory runs out.
     ensures gives { Gives ask.OutOfMemory (λ judged. judged) result (note_in bytes.now) }
     ensures known { IfOk result IsJudged }
+    // Judging draws nothing.
+    ensures no_draw { IsErrOf result ask.DrawFault → ⊥ }
 {
     let note = note_of(alloc, bytes)?;
     let checked = checked_of(alloc, &note)?;
@@ -115,7 +124,9 @@ pub fn judge_note(alloc: Global, bytes: &[u8]) -> Result<Judged, AskFault>
 /// `Frame` where the bytes are no answer frame; `OutOfMemory`.
 pub fn judge_answer(alloc: Global, bytes: &[u8], source: Source) -> Result<AnswerFrame, AskFault>
     // What the bytes say, unless memory runs out.
-    ensures { Gives ask.OutOfMemory (λ answer. answer) result (answer_in source bytes.now) }
+    ensures gives { Gives ask.OutOfMemory (λ answer. answer) result (answer_in source bytes.now) }
+    // Judging draws nothing.
+    ensures no_draw { IsErrOf result ask.DrawFault → ⊥ }
 {
     match read_answer(alloc, bytes) {
         Ok(answer) => Ok(answer),

@@ -1,5 +1,5 @@
 //! The first round of a session.
-ghost use Rattle.std.specs.Prelude.{◌≡◌, ◌≤◌, ◌<◌, ℕ, List, true, None, length, replicate, IfSome, IfOk, IsErrOf};
+ghost use Rattle.std.specs.Prelude.{◌≡◌, ◌⊎◌, ◌≤◌, ◌<◌, ℕ, List, true, None, length, replicate, IfSome, IfOk, IfErr, IsErrOf};
 ghost use Rattle.std.specs.List.{list_all, position};
 ghost use Rattle.sha2.specs.Sha256.{sha256};
 ghost use Rattle.spl_outside.specs.Causes.{Counts};
@@ -14,8 +14,10 @@ ghost use Rattle.session_model.specs.Draws.{wide};
 ghost use Rattle.session_model.specs.Sessions.{session_roots};
 ghost use Rattle.client_rounds.specs.Draws.{Draws};
 ghost use Rattle.client_rounds.specs.Rounds.{words_taken, round_length, IsRoundOf, IsRound};
+ghost use Rattle.client_rounds.specs.declared.faults.AskFault.TheVariants as ask;
 
 use crate::draws::{Drawn, draw_session};
+use crate::faults::AskFault;
 use crate::rounds::{RoundHead, round_frames};
 use key_frames::{KeyFrame, Note, frame_digest, write_key_frame, write_note};
 use private_plan::{Plan, Secrets, plan, round_secrets};
@@ -119,14 +121,8 @@ fn round_with<E: Expander>(
     })
 }
 
-/// Begins a session: draws its number and the roots of its trees, and gives the key frames and the note of the first
-/// round. The plan of the query is that of sums, and there are at most 255 parameters, as the calls that make them
-/// see to.
-///
-/// # Errors
-///
-/// `Failed` exactly where the source failed; `OutOfMemory`.
-pub fn start<E: Expander, R: Draw>(
+/// What `start` gives, whose only stops are those of the source and of memory.
+fn begun<E: Expander, R: Draw>(
     alloc: Global,
     expander: &E,
     checked: &Checked,
@@ -160,5 +156,39 @@ pub fn start<E: Expander, R: Draw>(
     ) {
         Ok(round) => Ok(round),
         Err(_) => Err(Stop::OutOfMemory),
+    }
+}
+
+/// Begins a session: draws its number and the roots of its trees, and gives the key frames and the note of the first
+/// round. The plan of the query is that of sums, and there are at most 255 parameters, as the calls that make them
+/// see to.
+///
+/// # Errors
+///
+/// `DrawFault` exactly where the source failed; `OutOfMemory`.
+pub fn start<E: Expander, R: Draw>(
+    alloc: Global,
+    expander: &E,
+    checked: &Checked,
+    params: &Params,
+    shape: &Shape,
+    draw: &mut R,
+) -> Result<RoundOut, AskFault>
+    requires accepted { IsCheckedFor checked.now shape.now.schema }
+    requires params { AreParamsFor checked.now shape.now.schema params.now }
+    requires few { length params.now ≤ 255 }
+    requires sums { list_all is_sum checked.now.spec.items ≡ true }
+    ensures told { IfSome (R.words draw.old) (λ ws. Draws (words_taken checked.now shape.now params.now) (IsRoundOf (E.meaning expander.now) checked.now shape.now params.now) ws (R.words draw.new) result) }
+    // Also where the words aren't told.
+    ensures some { IfOk result (IsRound (E.meaning expander.now) checked.now shape.now params.now) }
+    // Both key frames are as long as the plan tells.
+    ensures lengths { IfOk result (λ out. (length out.left ≡ round_length checked.now shape.now) × (length out.right ≡ round_length checked.now shape.now)) }
+    ensures only { IfErr result (λ e. (e ≡ ask.DrawFault) ⊎ (e ≡ ask.OutOfMemory)) }
+    ensures cause { Counts (R.faults draw.old) (R.faults draw.new) (IsErrOf result ask.DrawFault) }
+{
+    match begun(alloc, expander, checked, params, shape, draw) {
+        Ok(round) => Ok(round),
+        Err(Stop::Failed) => Err(AskFault::DrawFault),
+        Err(Stop::OutOfMemory) => Err(AskFault::OutOfMemory),
     }
 }

@@ -1,4 +1,3 @@
-use Rattle.std.proofs.Common.{arith}
 use Rattle.std.proofs.lemmas.Result.{err_from_is_err_and}
 use Rattle.client_rounds.proofs.Drawing.{refused_word}
 use Rattle.client_rounds.proofs.draws.draw_wide.Goals as goal

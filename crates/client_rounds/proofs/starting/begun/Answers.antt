@@ -5,7 +5,7 @@ use Rattle.client_rounds.specs.Asked.{IsAsked}
 use Rattle.client_rounds.proofs.Trees.{tree_count}
 use Rattle.client_rounds.proofs.Begun.{words_for, session_back, roots_again}
 use Rattle.client_rounds.proofs.FrameLengths.{round_is}
-use Rattle.client_rounds.proofs.starting.start.Goals as goal
+use Rattle.client_rounds.proofs.starting.begun.Goals as goal
 
 pub overflow_cast-as_slice : goal.overflow_cast-as_slice
 overflow_cast-as_slice g c =
