@@ -170,7 +170,7 @@ fn a_round_by_hand(rt: HostRuntime) -> Result<(), Fail> {
 
 /// The frames of a second round of one point tree of one level, with the roots 1 and 2 and the last number that a
 /// tree may have.
-fn later_frames(alloc: Global, roots: Roots) -> Result<(KeyFrame, KeyFrame), Fail> {
+fn later_frames(alloc: Global) -> Result<(KeyFrame, KeyFrame), Fail> {
     let secret = TreeSecret {
         kind: TreeKind::Point,
         depth: 1,
@@ -185,6 +185,7 @@ fn later_frames(alloc: Global, roots: Roots) -> Result<(KeyFrame, KeyFrame), Fai
         shape: read_shape(alloc, SHAPE.as_bytes())?,
     };
     let secrets = Secrets::from_vec(vec![in alloc; secret]?);
+    let roots = Roots::from_vec(vec![in alloc; (1, 2)]?);
     Ok(round_frames(alloc, &ToyExpander, &head, &secrets, &roots)?)
 }
 
@@ -200,8 +201,7 @@ fn is_later(frame: &KeyFrame, root: u128) -> bool {
 
 #[test]
 fn a_later_round_has_frames(rt: HostRuntime) -> Result<(), Fail> {
-    let roots = Roots::from_vec(vec![in rt.alloc(); (1, 2)]?);
-    let (zero, one) = later_frames(rt.alloc(), roots)?;
+    let (zero, one) = later_frames(rt.alloc())?;
     assert!(rt; is_later(&zero, 1) && is_later(&one, 2));
     Ok(())
 }
