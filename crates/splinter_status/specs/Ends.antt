@@ -1,5 +1,6 @@
 -- How a command ends, and what it leaves in the sink.
 use Rattle.std.specs.Prelude.{◌≡◌, ◌⊎◌, ℕ, List, ◌++◌, take, Option, Some}
+use Rattle.spl_outside.specs.Causes.{HasCause}
 use Rattle.splinter_status.specs.Texts.{line, line_of, sum_text}
 use Rattle.splinter_status.specs.declared.status.Status.{Status}
 use Rattle.splinter_status.specs.declared.status.Status.TheVariants as status
@@ -53,10 +54,15 @@ pub record ComesExactlyWhere (cause : Type 0) (refused result : Status) : Type 0
   pub only : result ≡ refused → cause
   pub always : cause → EndsAs refused result
 
--- the status comes exactly where there is this cause and no read fails, unless its line can't be printed
-pub record ComesWhereRead (cause : Type 0) (refused result : Status) : Type 0 where
+-- the same, but in its place there may be a file fault where a read failed
+pub record ComesWhereRead (cause failed : Type 0) (refused result : Status) : Type 0 where
   pub only : result ≡ refused → cause
-  pub always : cause → EndsAs refused result ⊎ (result ≡ status.FileFault)
+  pub always : cause → EndsAs refused result ⊎ ((result ≡ status.FileFault) × failed)
+
+-- the count rose where the status tells of this fault, and else stayed, unless its line couldn't be printed
+pub record CountsAs (fault : Status) (before now : ℕ) (result : Status) : Type 0 where
+  pub cause : HasCause before now (result ≡ fault)
+  pub quiet : (EndsAs fault result → ⊥) → now ≡ before
 
 -- the status is this one and the text was appended; or the sink failed behind a front of it; or it found no memory
 abbrev pub Reports : List ℕ → List ℕ → Status → Status → Option (List ℕ) → Type 0

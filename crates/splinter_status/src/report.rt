@@ -1,7 +1,7 @@
 //! The last step of a command: it prints its text, or the line of its refusal.
 ghost use Rattle.std.specs.Prelude.{◌≡◌, ◌≢◌, ◌++◌, IfSome, IfOk, Some};
 ghost use Rattle.std.specs.String.{string_bytes};
-ghost use Rattle.spl_outside.specs.Causes.{HasCause};
+ghost use Rattle.spl_outside.specs.Causes.{Counts};
 ghost use Rattle.splinter_status.specs.Ends.{Reports, EndsAs, status_of, end_of, line_of_refusal, line_of_end};
 ghost use Rattle.splinter_status.specs.Texts.{line_of, HasLine};
 
@@ -15,7 +15,7 @@ use std::alloc::{AllocError, Global};
 pub fn print<O: Sink>(alloc: Global, out: &mut O, text: &[u8], status: Status) -> Status
     ensures ends { EndsAs status result }
     ensures told { IfSome (O.written out.old) (λ w. Reports w text.now status result (O.written out.new)) }
-    ensures cause { HasCause (O.faults out.old) (O.faults out.new) ((result ≡ Status.OutputFault) × (status ≢ Status.OutputFault)) }
+    ensures counts { status ≢ Status.OutputFault → Counts (O.faults out.old) (O.faults out.new) (result ≡ Status.OutputFault) }
 {
     match out.write(alloc, text) {
         Ok(()) => status,
@@ -98,7 +98,7 @@ pub fn refuse<O: Sink>(alloc: Global, out: &mut O, stopped: Stopped) -> Status
     ensures quiet { end_of stopped ≡ Status.OutOfMemory → (result ≡ Status.OutOfMemory) × (out.new ≡ out.old) }
     ensures told { IfSome (O.written out.old) (λ w. Reports w (line_of_end stopped) (end_of stopped) result (O.written out.new)) }
     ensures line { HasLine result → IfSome (O.written out.old) (λ w. O.written out.new ≡ Some (w ++ line_of result)) }
-    ensures cause { HasCause (O.faults out.old) (O.faults out.new) (result ≡ Status.OutputFault) }
+    ensures counts { Counts (O.faults out.old) (O.faults out.new) (result ≡ Status.OutputFault) }
 {
     let Ok(end) = end_of(alloc, stopped) else {
         return Status::OutOfMemory;

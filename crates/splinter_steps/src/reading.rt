@@ -1,6 +1,6 @@
 //! Reading files, and the shapes and tables that they describe.
 ghost use Rattle.std.specs.Prelude.{◌≡◌, IfSome, IfOk, IfErr, IsErrOf};
-ghost use Rattle.spl_outside.specs.Causes.{HasCause};
+ghost use Rattle.spl_outside.specs.Causes.{Counts};
 ghost use Rattle.spl_values.specs.ShapeTexts.{shape_of};
 ghost use Rattle.splinter_status.specs.Phases.{ReadGives, Gives, StopsAtFiles};
 ghost use Rattle.csv_tables.specs.Reading.{table_of_text};
@@ -19,7 +19,7 @@ const FILE_LIMIT: u64 = 67_108_864;
 pub fn read_file<F: Files>(alloc: Global, files: &mut F, name: &str) -> Result<Vec<u8>, ReadStop>
     ensures gives { IfSome (F.held files.old) (λ m. ReadGives result (file_of m name.now)) }
     ensures stays { F.held files.new ≡ F.held files.old }
-    ensures cause { HasCause (F.faults files.old) (F.faults files.new) (IsErrOf result ReadStop.Fault) }
+    ensures counts { Counts (F.faults files.old) (F.faults files.new) (IsErrOf result ReadStop.Fault) }
 {
     match files.read(alloc, name, FILE_LIMIT) {
         Ok(bytes) => Ok(bytes),
@@ -53,7 +53,7 @@ pub fn read_shape<F: Files>(alloc: Global, files: &mut F, name: &str) -> Result<
     ensures gives { IfSome (F.held files.old) (λ m. Gives (λ shape. shape) result (shape_in m name.now)) }
     ensures refusals { IfErr result StopsAtFiles }
     ensures stays { F.held files.new ≡ F.held files.old }
-    ensures cause { HasCause (F.faults files.old) (F.faults files.new) (IsErrOf result InputStop.FileFault) }
+    ensures counts { Counts (F.faults files.old) (F.faults files.new) (IsErrOf result InputStop.FileFault) }
 {
     let text = read_file(alloc, files, name)?;
     shape_of_text(alloc, &text)
@@ -85,7 +85,7 @@ pub fn read_table<F: Files>(
     ensures shape { IfOk result (λ table. table.shape ≡ shape.now) }
     ensures refusals { IfErr result StopsAtFiles }
     ensures stays { F.held files.new ≡ F.held files.old }
-    ensures cause { HasCause (F.faults files.old) (F.faults files.new) (IsErrOf result InputStop.FileFault) }
+    ensures counts { Counts (F.faults files.old) (F.faults files.new) (IsErrOf result InputStop.FileFault) }
 {
     let text = read_file(alloc, files, name)?;
     table_of_text(alloc, &text, shape)

@@ -1,9 +1,9 @@
 //! Writing files.
-ghost use Rattle.std.specs.Prelude.{◌≡◌, [], ◌∷◌, Some, IfSome, IfErr, IsErrOf, OnOk};
-ghost use Rattle.spl_outside.specs.Causes.{HasCause};
+ghost use Rattle.std.specs.Prelude.{[], ◌∷◌, IfSome, IfErr, IsErrOf};
+ghost use Rattle.spl_outside.specs.Causes.{Counts};
 ghost use Rattle.spl_outside.specs.Content.{KeepsBut};
 ghost use Rattle.splinter_steps.specs.Outputs.{output, IsLate};
-ghost use Rattle.splinter_steps.specs.Writes.{put_all, PutsSome};
+ghost use Rattle.splinter_steps.specs.Writes.{Puts};
 
 use spl_outside::{FileStop, Files};
 use splinter_status::Stopped;
@@ -22,13 +22,12 @@ pub struct Output<'a> {
 ///
 /// # Errors
 ///
-/// `FileFault` only where the files failed, and the name may then hold anything; `OutOfMemory`.
+/// `FileFault` exactly where the files failed, and the name may then hold anything; `OutOfMemory`, and nothing changed.
 pub fn write_file<F: Files>(alloc: Global, files: &mut F, file: &Output<'_>) -> Result<(), Stopped>
-    ensures whole { IfSome (F.held files.old) (λ m. OnOk result (F.held files.new ≡ Some (put_all (output file.now ∷ []) m))) }
-    ensures some { IfSome (F.held files.old) (λ m. PutsSome (output file.now ∷ []) m (F.held files.new)) }
+    ensures puts { IfSome (F.held files.old) (λ m. Puts (output file.now ∷ []) m (F.held files.new) result) }
     ensures others { IfSome (F.held files.old) (λ m. KeepsBut ((output file.now).0 ∷ []) m (F.held files.new)) }
     ensures late { IfErr result IsLate }
-    ensures cause { HasCause (F.faults files.old) (F.faults files.new) (IsErrOf result Stopped.FileFault) }
+    ensures counts { Counts (F.faults files.old) (F.faults files.new) (IsErrOf result Stopped.FileFault) }
 {
     match files.write(alloc, file.name, file.bytes) {
         Ok(()) => Ok(()),
@@ -51,11 +50,10 @@ pub fn write_three<F: Files>(
     second: &Output<'_>,
     third: &Output<'_>,
 ) -> Result<(), Stopped>
-    ensures whole { IfSome (F.held files.old) (λ m. OnOk result (F.held files.new ≡ Some (put_all (output first.now ∷ output second.now ∷ output third.now ∷ []) m))) }
-    ensures some { IfSome (F.held files.old) (λ m. PutsSome (output first.now ∷ output second.now ∷ output third.now ∷ []) m (F.held files.new)) }
+    ensures puts { IfSome (F.held files.old) (λ m. Puts (output first.now ∷ output second.now ∷ output third.now ∷ []) m (F.held files.new) result) }
     ensures others { IfSome (F.held files.old) (λ m. KeepsBut ((output first.now).0 ∷ (output second.now).0 ∷ (output third.now).0 ∷ []) m (F.held files.new)) }
     ensures late { IfErr result IsLate }
-    ensures cause { HasCause (F.faults files.old) (F.faults files.new) (IsErrOf result Stopped.FileFault) }
+    ensures counts { Counts (F.faults files.old) (F.faults files.new) (IsErrOf result Stopped.FileFault) }
 {
     write_file(alloc, files, first)?;
     write_file(alloc, files, second)?;
