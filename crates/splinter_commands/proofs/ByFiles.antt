@@ -28,7 +28,7 @@ use Rattle.splinter_commands.specs.Sessions.{HoldsAnswer, HoldsSession}
 
 -- ---- steps that come
 
-step_came : {A B E : Type 0} (step : Result A E) (next : A → Result B E) (y : B) → (step >>= next) ≡ Ok y → (x : A) × ((step ≡ Ok x) × (next x ≡ Ok y))
+pub step_came : {A B E : Type 0} (step : Result A E) (next : A → Result B E) (y : B) → (step >>= next) ≡ Ok y → (x : A) × ((step ≡ Ok x) × (next x ≡ Ok y))
 step_came (Ok x) next y is = (x, (refl, is))
 step_came (Err f) next y is = absurd cc
 

@@ -1,7 +1,9 @@
 -- What a command owes that stops before it is done.
-use Rattle.std.proofs.Common.{◌≡◌, ℕ, List, [], ◌∷◌, drop, Option, Some, None, Result, Ok, Err, refl, sym, subst, arith, inl}
-use Rattle.std.specs.Prelude.{IfSome, IfErr, IsSomeAnd}
-use Rattle.spl_outside.specs.Content.{FileMap, KeepsOthers, LeftAfter}
+use Rattle.std.proofs.Common.{◌≡◌, ℕ, List, [], drop, Option, Some, None, Result, Ok, Err, refl, sym, subst, arith}
+use Rattle.std.specs.Prelude.{IfSome, IfErr}
+use Rattle.std.specs.Global.{Vec}
+use Rattle.spl_outside.specs.Causes.{Counts}
+use Rattle.spl_outside.specs.Content.{FileMap, LeftAfter}
 use Rattle.splinter_status.specs.Phases.{EndsAtFiles, Gives}
 use Rattle.splinter_status.specs.declared.stops.Refusal.{Refusal}
 use Rattle.splinter_status.specs.declared.stops.InputStop.{InputStop}
@@ -9,147 +11,170 @@ use Rattle.splinter_status.specs.declared.stops.InputStop.TheVariants as input
 use Rattle.splinter_status.specs.declared.stops.Stopped.{Stopped}
 use Rattle.splinter_status.specs.declared.stops.Stopped.TheVariants as stopped
 use Rattle.splinter_steps.specs.Outputs.{IsLate}
-use Rattle.splinter_steps.specs.Writes.{put_all, PutsSome}
-use Rattle.splinter_commands.specs.Commands.{Ready, draws, outputs, printed, words_of}
-use Rattle.splinter_commands.specs.Meets.{Meets, Refuses, Leaves, IsDrawing}
+use Rattle.splinter_steps.specs.Writes.{put_all, Puts}
+use Rattle.splinter_commands.specs.Effects.{Effect, draws, outputs}
+use Rattle.splinter_commands.specs.Meets.{Meets, Ends, FilesFailed, Takes, TakesSome, IsTold, IsDrawing}
 
--- ---- files
-
--- where none was written, no more than some were
-pub none_some : (os : List (List ℕ × List ℕ)) (m : FileMap) (now : Option FileMap) → now ≡ Some m → PutsSome os m now
-unfolding PutsSome
-none_some [] m now is = is
-none_some (o ∷ os) m now is = inl (subst (λ k. IsSomeAnd k (KeepsOthers m o.0)) (sym is) (λ q other. refl))
+-- some words to come
+pub any_words : (words : Option (List ℕ)) → (ws : List ℕ) × IsTold words ws
+any_words None = ([], tt)
+any_words (Some ws) = (ws, refl)
 
 -- ---- before it is ready
 
-refuses_early : (T X : Type 0) (view : X → Ready) (s : InputStop) (ready : Result Ready Refusal) → Gives view (Err s) ready → Refuses {T = T} (Err (stopped.Input s)) ready
-refuses_early T X view (input.Refused r) ready gives = gives
-refuses_early T X view input.FileFault ready gives = tt
-refuses_early T X view input.OutOfMemory ready gives = tt
+ends_early : {X : Type 0} (view : X → Effect) (s : InputStop) (ready : Result Effect Refusal) (ws : List ℕ) (m : FileMap) → Gives view (Err s) ready → Ends (Err (stopped.Input s)) ready ws m (Some m)
+ends_early view (input.Refused r) ready ws m gives = (gives, refl)
+ends_early view input.FileFault ready ws m gives = refl
+ends_early view input.OutOfMemory ready ws m gives = refl
 
-leaves_early : (T : Type 0) (s : InputStop) (ready : Result Ready Refusal) (words : List ℕ) (m : FileMap) → Leaves {T = T} (Err (stopped.Input s)) ready words m (Some m)
-leaves_early T s (Ok x) words m = refl
-leaves_early T s (Err r) words m = refl
+takes_none : (count : ℕ) (s : InputStop) (words : Option (List ℕ)) → IfSome words (λ ws. Takes (Err (stopped.Input s)) count ws words)
+takes_none count s None = tt
+takes_none count s (Some ws) = refl
 
-none_drawn : (most : ℕ) (words : Option (List ℕ)) → IfSome words (λ ws. LeftAfter most ws words)
-none_drawn most None = tt
-none_drawn most (Some ws) = (0, (omega arith, refl))
-
-each_early : (T : Type 0) (s : InputStop) (ready : Result Ready Refusal) (words : Option (List ℕ)) (m : FileMap) → IfSome words (λ ws. Leaves {T = T} (Err (stopped.Input s)) ready ws m (Some m))
-each_early T s ready None m = tt
-each_early T s ready (Some ws) m = leaves_early T s ready ws m
-
-early_in : (T X : Type 0) (text : T → List ℕ) (view : X → Ready) (ready : FileMap → Result Ready Refusal) (files : Option FileMap) (words : Option (List ℕ)) (s : InputStop)
-    → IfSome files (λ m. Gives view (Err s) (ready m)) → IfSome files (λ m. Meets {T = T} text (ready m) m files words words (Err (stopped.Input s)))
-early_in T X text view ready None words s gives = tt
-early_in T X text view ready (Some m) words s gives = record {
-  refuses = refuses_early T X view s (ready m) gives;
-  tells = none_drawn (draws (ready m)) words;
-  leaves = each_early T s (ready m) words m;
-}
+early_in : {X : Type 0} (view : X → Effect) (ready : FileMap → Result Effect Refusal) (files : Option FileMap) (words : Option (List ℕ)) (s : InputStop)
+    → IfSome files (λ m. Gives view (Err s) (ready m)) → IfSome files (λ m. Meets (ready m) m files words words (Err (stopped.Input s)))
+early_in view ready None words s gives = tt
+early_in view ready (Some m) words s gives =
+    let some = any_words words in
+    record {
+      ends = (some.0, (some.1, ends_early view s (ready m) some.0 m gives));
+      takes = takes_none (draws (ready m)) s words;
+    }
 
 -- nothing was drawn and nothing written
-pub early : (T X : Type 0) (text : T → List ℕ) (view : X → Ready) (ready : FileMap → Result Ready Refusal) (files held : Option FileMap) (words : Option (List ℕ)) (s : InputStop) (r : Result T Stopped)
-    → r ≡ Err (stopped.Input s) → held ≡ files → IfSome files (λ m. Gives view (Err s) (ready m)) → IfSome files (λ m. Meets {T = T} text (ready m) m held words words r)
-early T X text view ready files held words s r is stays gives =
-    subst (λ k. IfSome files (λ m. Meets {T = T} text (ready m) m k words words r)) (sym stays)
-    (subst (λ (q : Result T Stopped). IfSome files (λ m. Meets {T = T} text (ready m) m files words words q)) (sym is) (early_in T X text view ready files words s gives))
+pub early : {X : Type 0} (view : X → Effect) (ready : FileMap → Result Effect Refusal) (files held : Option FileMap) (words : Option (List ℕ)) (s : InputStop) (r : Result (Vec ℕ) Stopped)
+    → r ≡ Err (stopped.Input s) → held ≡ files → IfSome files (λ m. Gives view (Err s) (ready m)) → IfSome files (λ m. Meets (ready m) m held words words r)
+early view ready files held words s r is stays gives =
+    subst (λ k. IfSome files (λ m. Meets (ready m) m k words words r)) (sym stays)
+    (subst (λ (q : Result (Vec ℕ) Stopped). IfSome files (λ m. Meets (ready m) m files words words q)) (sym is) (early_in view ready files words s gives))
 
 -- ---- once it is ready
 
--- the stop isn't one of what the words and the files hold
-abbrev pub NotEarly : Stopped → Type 0
-NotEarly (stopped.Input s) = ⊥
-NotEarly _ = Unit {0}
+-- what a command came to over files that make it ready
+abbrev pub Came : Option FileMap → Option FileMap → Option (List ℕ) → Effect → Result (Vec ℕ) Stopped → Type 0
+Came files held words x r = IfSome files (λ m. (ws : List ℕ) × (IsTold words ws × Ends r (Ok x) ws m held))
 
-pub drawing_late : (s : Stopped) → IsDrawing s → NotEarly s
-drawing_late (stopped.Input s) h = h
-drawing_late stopped.DrawFault h = tt
-drawing_late stopped.FileFault h = tt
-drawing_late stopped.OutOfMemory h = tt
+-- it is what the command owes
+pub meets : (ready : FileMap → Result Effect Refusal) (files held : Option FileMap) (words left : Option (List ℕ)) (r : Result (Vec ℕ) Stopped) (x : Effect) → IfSome files (λ m. ready m ≡ Ok x)
+    → Came files held words x r → IfSome words (λ ws. Takes r x.draws ws left) → IfSome files (λ m. Meets (ready m) m held words left r)
+meets ready None held words left r x is came takes = tt
+meets ready (Some m) held words left r x is came takes = subst (λ k. Meets k m held words left r) (sym is) (record { ends = came; takes = takes })
 
-pub written_late : (s : Stopped) → IsLate s → NotEarly s
-written_late (stopped.Input s) h = h
-written_late stopped.DrawFault h = tt
-written_late stopped.FileFault h = tt
-written_late stopped.OutOfMemory h = tt
-
-refuses_late : (T : Type 0) (s : Stopped) (x : Ready) → NotEarly s → Refuses {T = T} (Err s) (Ok x)
-refuses_late T (stopped.Input s) x late = absurd late
-refuses_late T stopped.DrawFault x late = refl
-refuses_late T stopped.FileFault x late = refl
-refuses_late T stopped.OutOfMemory x late = refl
-
-leaves_late : (T : Type 0) (s : Stopped) (x : Ready) (words : List ℕ) (m : FileMap) (held : Option FileMap) → NotEarly s → PutsSome (outputs x words) m held → Leaves {T = T} (Err s) (Ok x) words m held
-leaves_late T (stopped.Input s) x words m held late some = absurd late
-leaves_late T stopped.DrawFault x words m held late some = some
-leaves_late T stopped.FileFault x words m held late some = some
-leaves_late T stopped.OutOfMemory x words m held late some = some
-
-each_late : (T : Type 0) (s : Stopped) (x : Ready) (words : Option (List ℕ)) (m : FileMap) (held : Option FileMap) → NotEarly s → IfSome words (λ ws. PutsSome (outputs x ws) m held)
-    → IfSome words (λ ws. Leaves {T = T} (Err s) (Ok x) ws m held)
-each_late T s x None m held late some = tt
-each_late T s x (Some ws) m held late some = leaves_late T s x ws m held late some
-
-late_in : (T : Type 0) (text : T → List ℕ) (ready : FileMap → Result Ready Refusal) (files held : Option FileMap) (words left : Option (List ℕ)) (s : Stopped) (x : Ready) → NotEarly s
-    → IfSome files (λ m. ready m ≡ Ok x) → IfSome words (λ ws. LeftAfter (words_of x) ws left) → IfSome files (λ m. IfSome words (λ ws. PutsSome (outputs x ws) m held))
-    → IfSome files (λ m. Meets {T = T} text (ready m) m held words left (Err s))
-late_in T text ready None held words left s x other is drawn some = tt
-late_in T text ready (Some m) held words left s x other is drawn some =
-    subst (λ k. Meets {T = T} text k m held words left (Err s)) (sym is) (record {
-      refuses = refuses_late T s x other;
-      tells = drawn;
-      leaves = each_late T s x words m held other some;
-    })
-
--- some words were drawn, and some files written
-pub late : (T : Type 0) (text : T → List ℕ) (ready : FileMap → Result Ready Refusal) (files held : Option FileMap) (words left : Option (List ℕ)) (s : Stopped) (r : Result T Stopped) (x : Ready) → r ≡ Err s → NotEarly s
-    → IfSome files (λ m. ready m ≡ Ok x) → IfSome words (λ ws. LeftAfter (words_of x) ws left) → IfSome files (λ m. IfSome words (λ ws. PutsSome (outputs x ws) m held))
-    → IfSome files (λ m. Meets {T = T} text (ready m) m held words left r)
-late T text ready files held words left s r x same other is drawn some =
-    subst (λ (q : Result T Stopped). IfSome files (λ m. Meets {T = T} text (ready m) m held words left q)) (sym same) (late_in T text ready files held words left s x other is drawn some)
-
-none_each : (x : Ready) (words : Option (List ℕ)) (m : FileMap) → IfSome words (λ ws. PutsSome (outputs x ws) m (Some m))
-none_each x None m = tt
-none_each x (Some ws) m = none_some (outputs x ws) m (Some m) refl
-
--- no file was written yet
-pub none_written : (x : Ready) (files held : Option FileMap) (words : Option (List ℕ)) → held ≡ files → IfSome files (λ m. IfSome words (λ ws. PutsSome (outputs x ws) m held))
-none_written x None held words stays = tt
-none_written x (Some m) held words stays = subst (λ k. IfSome words (λ ws. PutsSome (outputs x ws) m k)) (sym stays) (none_each x words m)
-
--- ---- done
-
-pub done : (T : Type 0) (text : T → List ℕ) (ready : FileMap → Result Ready Refusal) (files held : Option FileMap) (words left : Option (List ℕ)) (t : T) (x : Ready)
-    → IfSome files (λ m. ready m ≡ Ok x) → IfSome words (λ ws. (text t ≡ printed x ws) × (left ≡ Some (drop (words_of x) ws))) → IfSome files (λ m. IfSome words (λ ws. held ≡ Some (put_all (outputs x ws) m)))
-    → IfSome files (λ m. Meets {T = T} text (ready m) m held words left (Ok t))
-done T text ready None held words left t x is told all = tt
-done T text ready (Some m) held words left t x is told all =
-    subst (λ k. Meets {T = T} text k m held words left (Ok t)) (sym is) (record { refuses = refl; tells = told; leaves = all })
-
--- a command that draws and writes nothing
-pub quiet : (x : Ready) → words_of x ≡ 0 → (text : List ℕ) (words : Option (List ℕ)) → ((ws : List ℕ) → text ≡ printed x ws) → IfSome words (λ ws. (text ≡ printed x ws) × (words ≡ Some (drop (words_of x) ws)))
-quiet x none text None same = tt
-quiet x none text (Some ws) same = (same ws, rw none refl)
-
-pub writes_none : (x : Ready) → ((ws : List ℕ) → outputs x ws ≡ []) → (files held : Option FileMap) (words : Option (List ℕ)) → held ≡ files → IfSome files (λ m. IfSome words (λ ws. held ≡ Some (put_all (outputs x ws) m)))
+ends_drawing : (s : Stopped) (x : Effect) (ws : List ℕ) (m : FileMap) (held : Option FileMap) → IsDrawing s → held ≡ Some m → Ends (Err s) (Ok x) ws m held
 unfolding put_all
-writes_none x none None held words stays = tt
-writes_none x none (Some m) held None stays = tt
-writes_none x none (Some m) held (Some ws) stays = all_of (outputs x ws) (none ws) where
-  all_of : (os : List (List ℕ × List ℕ)) → os ≡ [] → held ≡ Some (put_all os m)
-  all_of [] e = stays
-  all_of (o ∷ os) e = cc
+ends_drawing (stopped.Input s) x ws m held drawing stays = absurd drawing
+ends_drawing stopped.DrawFault x ws m held drawing stays = (refl, stays)
+ends_drawing stopped.FileFault x ws m held drawing stays = absurd drawing
+ends_drawing stopped.OutOfMemory x ws m held drawing stays = (0, stays)
+
+came_drawing : (files held : Option FileMap) (words : Option (List ℕ)) (s : Stopped) (x : Effect) → IsDrawing s → held ≡ files → Came files held words x (Err s)
+came_drawing None held words s x drawing stays = tt
+came_drawing (Some m) held words s x drawing stays = let some = any_words words in (some.0, (some.1, ends_drawing s x some.0 m held drawing stays))
+
+takes_drawing : (count : ℕ) (s : Stopped) (words left : Option (List ℕ)) → IsDrawing s → IfSome words (λ ws. LeftAfter count ws left) → IfSome words (λ ws. Takes (Err s) count ws left)
+takes_drawing count s None left drawing drawn = tt
+takes_drawing count (stopped.Input s) (Some ws) left drawing drawn = absurd drawing
+takes_drawing count stopped.DrawFault (Some ws) left drawing drawn = drawn
+takes_drawing count stopped.FileFault (Some ws) left drawing drawn = absurd drawing
+takes_drawing count stopped.OutOfMemory (Some ws) left drawing drawn = drawn
+
+-- no more than its words were drawn, and no file was written
+pub undrawn : (ready : FileMap → Result Effect Refusal) (files held : Option FileMap) (words left : Option (List ℕ)) (s : Stopped) (r : Result (Vec ℕ) Stopped) (x : Effect) → r ≡ Err s → IsDrawing s
+    → IfSome files (λ m. ready m ≡ Ok x) → IfSome words (λ ws. LeftAfter x.draws ws left) → held ≡ files → IfSome files (λ m. Meets (ready m) m held words left r)
+undrawn ready files held words left s r x same drawing is drawn stays =
+    subst (λ (q : Result (Vec ℕ) Stopped). IfSome files (λ m. Meets (ready m) m held words left q)) (sym same)
+    (meets ready files held words left (Err s) x is (came_drawing files held words s x drawing stays) (takes_drawing x.draws s words left drawing drawn))
+
+ends_writing : (s : Stopped) (x : Effect) (ws : List ℕ) (m : FileMap) (held : Option FileMap) → IsLate s → Puts (outputs x ws) m held (Err s) → Ends (Err s) (Ok x) ws m held
+ends_writing (stopped.Input s) x ws m held late puts = absurd late
+ends_writing stopped.DrawFault x ws m held late puts = absurd late
+ends_writing stopped.FileFault x ws m held late puts = puts
+ends_writing stopped.OutOfMemory x ws m held late puts = (puts.0, puts.1.1)
+
+takes_writing : (count : ℕ) (s : Stopped) (words left : Option (List ℕ)) → IsLate s → IfSome words (λ ws. left ≡ Some (drop count ws)) → IfSome words (λ ws. Takes (Err s) count ws left)
+takes_writing count s None left late drawn = tt
+takes_writing count (stopped.Input s) (Some ws) left late drawn = absurd late
+takes_writing count stopped.DrawFault (Some ws) left late drawn = absurd late
+takes_writing count stopped.FileFault (Some ws) left late drawn = drawn
+takes_writing count stopped.OutOfMemory (Some ws) left late drawn = (count, (omega arith, drawn))
+
+-- what was written of the files, of which these are those
+abbrev pub Wrote : Option FileMap → Option FileMap → Option (List ℕ) → Effect → Result (Unit {0}) Stopped → Type 0
+Wrote files held words x r = IfSome files (λ m. (ws : List ℕ) × (IsTold words ws × Puts (outputs x ws) m held r))
+
+came_writing : (files held : Option FileMap) (words : Option (List ℕ)) (s : Stopped) (x : Effect) → IsLate s → Wrote files held words x (Err s) → Came files held words x (Err s)
+came_writing None held words s x late wrote = tt
+came_writing (Some m) held words s x late wrote = (wrote.0, (wrote.1.0, ends_writing s x wrote.0 m held late wrote.1.1))
+
+-- all of its words were drawn, and not all of its files written
+pub unwritten : (ready : FileMap → Result Effect Refusal) (files held : Option FileMap) (words left : Option (List ℕ)) (s : Stopped) (r : Result (Vec ℕ) Stopped) (x : Effect) → r ≡ Err s → IsLate s
+    → IfSome files (λ m. ready m ≡ Ok x) → IfSome words (λ ws. left ≡ Some (drop x.draws ws)) → Wrote files held words x (Err s) → IfSome files (λ m. Meets (ready m) m held words left r)
+unwritten ready files held words left s r x same late is drawn wrote =
+    subst (λ (q : Result (Vec ℕ) Stopped). IfSome files (λ m. Meets (ready m) m held words left q)) (sym same)
+    (meets ready files held words left (Err s) x is (came_writing files held words s x late wrote) (takes_writing x.draws s words left late drawn))
+
+-- ---- counts of faults
+
+-- of the words to come none was taken
+pub takes_nothing : (words : Option (List ℕ)) → TakesSome words words
+takes_nothing None = tt
+takes_nothing (Some ws) = (0, refl)
+
+-- or some first ones were
+pub takes_front : (count : ℕ) (words left : Option (List ℕ)) → IfSome words (λ ws. left ≡ Some (drop count ws)) → TakesSome words left
+takes_front count None left took = tt
+takes_front count (Some ws) left took = (count, took)
+
+counts_as : (before now : ℕ) (P Q : Type 0) → (P → Q) → (Q → P) → Counts before now P → Counts before now Q
+counts_as before now P Q to from counts = record {
+  cause = record { later = counts.cause.later; cause = λ q. counts.cause.cause (from q) };
+  quiet = λ none. counts.quiet (λ p. none (to p));
+}
+
+-- a call that didn't fail, and then others
+pub counts_next : (before mid now : ℕ) (P Q R : Type 0) → (P → ⊥) → (Q → R) → (R → Q) → Counts before mid P → Counts mid now Q → Counts before now R
+counts_next before mid now P Q R none to from first second = counts_as before now Q R to from (subst (λ n. Counts n now Q) (first.quiet none) second)
+
+no_file : (s : Stopped) → IsDrawing s → FilesFailed (Err s) → ⊥
+no_file (stopped.Input s) drawing failed = drawing
+no_file stopped.DrawFault drawing failed = failed
+no_file stopped.FileFault drawing failed = drawing
+no_file stopped.OutOfMemory drawing failed = failed
+
+-- no file failed where a draw did, or memory was short
+pub counts_drawing : (before now : ℕ) (P : Type 0) (s : Stopped) (r : Result (Vec ℕ) Stopped) → r ≡ Err s → IsDrawing s → (P → ⊥) → Counts before now P → Counts before now (FilesFailed r)
+counts_drawing before now P s r is drawing none counts =
+    counts_as before now P (FilesFailed r) (λ p. absurd (none p)) (λ failed. absurd (no_file s drawing (subst FilesFailed is failed))) counts
+
+late_file : (s : Stopped) → IsLate s → FilesFailed (Err s) → s ≡ stopped.FileFault
+late_file (stopped.Input s) late failed = absurd late
+late_file stopped.DrawFault late failed = absurd late
+late_file stopped.FileFault late failed = refl
+late_file stopped.OutOfMemory late failed = absurd failed
+
+-- a file failed where it wasn't written
+pub counts_writing : (before mid now : ℕ) (P Q : Type 0) (s : Stopped) (r : Result (Vec ℕ) Stopped) → r ≡ Err s → IsLate s → (P → ⊥) → (Q → s ≡ stopped.FileFault) → (s ≡ stopped.FileFault → Q) → Counts before mid P → Counts mid now Q
+    → Counts before now (FilesFailed r)
+counts_writing before mid now P Q s r is late none to from first second =
+    counts_next before mid now P Q (FilesFailed r) none (λ q. subst FilesFailed (sym is) (subst (λ k. FilesFailed (Err k)) (sym (to q)) tt)) (λ failed. from (late_file s late (subst FilesFailed is failed))) first second
 
 -- ---- how it ends
 
-ends_late : (s : Stopped) → NotEarly s → EndsAtFiles s
-ends_late (stopped.Input s) h = absurd h
-ends_late stopped.DrawFault h = tt
-ends_late stopped.FileFault h = tt
-ends_late stopped.OutOfMemory h = tt
+ends_drawn : (s : Stopped) → IsDrawing s → EndsAtFiles s
+ends_drawn (stopped.Input s) h = absurd h
+ends_drawn stopped.DrawFault h = tt
+ends_drawn stopped.FileFault h = tt
+ends_drawn stopped.OutOfMemory h = tt
+
+ends_written : (s : Stopped) → IsLate s → EndsAtFiles s
+ends_written (stopped.Input s) h = absurd h
+ends_written stopped.DrawFault h = tt
+ends_written stopped.FileFault h = tt
+ends_written stopped.OutOfMemory h = tt
 
 -- a stop that comes late is no refusal
-pub late_ends : {T : Type 0} (s : Stopped) (r : Result T Stopped) → r ≡ Err s → NotEarly s → IfErr r EndsAtFiles
-late_ends s r is other = subst (λ q. IfErr q EndsAtFiles) (sym is) (ends_late s other)
+pub drawing_ends : {T : Type 0} (s : Stopped) (r : Result T Stopped) → r ≡ Err s → IsDrawing s → IfErr r EndsAtFiles
+drawing_ends s r is drawing = subst (λ q. IfErr q EndsAtFiles) (sym is) (ends_drawn s drawing)
+
+pub writing_ends : {T : Type 0} (s : Stopped) (r : Result T Stopped) → r ≡ Err s → IsLate s → IfErr r EndsAtFiles
+writing_ends s r is late = subst (λ q. IfErr q EndsAtFiles) (sym is) (ends_written s late)

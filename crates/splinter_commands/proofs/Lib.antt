@@ -3,5 +3,7 @@ mod Begun
 mod Bounded
 mod ByFiles
 mod Combined
+mod Drawless
 mod SessionsEnd
 mod Stops
+mod Within

@@ -1,15 +1,13 @@
 //! The command `answer`: one provider answers one key file.
-ghost use Rattle.std.specs.Prelude.{◌≡◌, [], ◌∷◌, Ok, IfSome, IfOk, IfErr, IsErrOf};
-ghost use Rattle.spl_outside.specs.Causes.{HasCause};
-ghost use Rattle.spl_outside.specs.Content.{KeepsBut};
+ghost use Rattle.std.specs.Prelude.{◌≡◌, [], Err, IfSome, IfOk, IfErr, IsErrOf};
+ghost use Rattle.spl_outside.specs.Causes.{Counts};
 ghost use Rattle.seed_expansion.specs.ChaChaExpansion.{chacha};
 ghost use Rattle.provider_core.specs.Answering.{answered as answered_over};
 ghost use Rattle.command_words.specs.Views.{answer_order, IsWorkers};
 ghost use Rattle.splinter_status.specs.Phases.{Gives, StopsAtFiles, EndsAtFiles};
-ghost use Rattle.splinter_status.specs.declared.stops.InputStop.TheVariants as input;
 ghost use Rattle.splinter_status.specs.declared.stops.Stopped.TheVariants as stopped;
 ghost use Rattle.splinter_commands.specs.Commands.{answer_ready, answered};
-ghost use Rattle.splinter_commands.specs.Meets.{Meets};
+ghost use Rattle.splinter_commands.specs.Meets.{FilesFailed, Meets};
 ghost use Rattle.splinter_commands.specs.Refusals.{or_provider_refusal};
 
 use crate::refusals::provider_stop;
@@ -66,7 +64,7 @@ fn answer_files<T: Threads + Sync, F: Files, G: Gate + Sync>(
     ensures gives { IfSome (F.held files.old) (λ m. Gives (λ v. answered words.now.out.now v.items) result (answer_ready (answer_order words.now) m)) }
     ensures refusals { IfErr result StopsAtFiles }
     ensures stays { F.held files.new ≡ F.held files.old }
-    ensures cause { HasCause (F.faults files.old) (F.faults files.new) (IsErrOf result InputStop.FileFault) }
+    ensures counts { Counts (F.faults files.old) (F.faults files.new) (IsErrOf result InputStop.FileFault) }
 {
     let shape = read_shape(alloc, files, words.shape)?;
     let table = read_table(alloc, files, words.table, &shape)?;
@@ -83,12 +81,10 @@ pub fn answer<T: Threads + Sync, F: Files, G: Gate + Sync>(
     gate: &G,
 ) -> Result<Vec<u8>, Stopped>
     requires { IsWorkers words.now.workers }
-    ensures told { (drawn : _) → IfSome (F.held files.old) (λ m. Meets (λ text. text.items) (answer_ready (answer_order words.now) m) m (F.held files.new) drawn drawn result) }
-    ensures others { IfSome (F.held files.old) (λ m. KeepsBut (words.now.out.now ∷ []) m (F.held files.new)) }
+    ensures told { (drawn : _) → IfSome (F.held files.old) (λ m. Meets (answer_ready (answer_order words.now) m) m (F.held files.new) drawn drawn result) }
     ensures refusals { IfErr result EndsAtFiles }
     ensures untouched { (s : _) → result ≡ Err (stopped.Input s) → F.held files.new ≡ F.held files.old }
-    ensures file_fault { HasCause (F.faults files.old) (F.faults files.new) (IsErrOf result (stopped.Input input.FileFault)) }
-    ensures late_fault { HasCause (F.faults files.old) (F.faults files.new) (IsErrOf result Stopped.FileFault) }
+    ensures files { Counts (F.faults files.old) (F.faults files.new) (FilesFailed result) }
     ensures no_draw { IsErrOf result Stopped.DrawFault → ⊥ }
     ensures silent { IfOk result (λ text. text.items ≡ []) }
 {

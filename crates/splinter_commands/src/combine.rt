@@ -1,13 +1,11 @@
 //! The command `combine`: the result that a note and two answers come to.
 ghost use Rattle.std.specs.Prelude.{◌≡◌, Ok, IfSome, IfOk, IfErr, IsErrOf};
-ghost use Rattle.spl_outside.specs.Causes.{HasCause};
+ghost use Rattle.spl_outside.specs.Causes.{Counts};
 ghost use Rattle.client_rounds.specs.Finishing.{note_in, answer_in, result_of, IsJudged};
 ghost use Rattle.command_words.specs.Views.{combine_order};
 ghost use Rattle.splinter_status.specs.Phases.{Gives, StopsAtFiles, EndsAtFiles};
-ghost use Rattle.splinter_status.specs.declared.stops.InputStop.TheVariants as input;
-ghost use Rattle.splinter_status.specs.declared.stops.Stopped.TheVariants as stopped;
 ghost use Rattle.splinter_commands.specs.Commands.{answer_of, combine_ready, combined, noted_in};
-ghost use Rattle.splinter_commands.specs.Meets.{Meets};
+ghost use Rattle.splinter_commands.specs.Meets.{FilesFailed, Meets};
 ghost use Rattle.splinter_commands.specs.Refusals.{or_ask_refusal};
 
 use crate::refusals::{client_stop, name_of};
@@ -61,7 +59,7 @@ fn read_note<F: Files>(
     ensures known { IfOk result IsJudged }
     ensures refusals { IfErr result StopsAtFiles }
     ensures stays { F.held files.new ≡ F.held files.old }
-    ensures cause { HasCause (F.faults files.old) (F.faults files.new) (IsErrOf result InputStop.FileFault) }
+    ensures counts { Counts (F.faults files.old) (F.faults files.new) (IsErrOf result InputStop.FileFault) }
 {
     let bytes = read_file(alloc, files, words.note)?;
     judged_note(alloc, words, &bytes)
@@ -78,7 +76,7 @@ fn read_answer<F: Files>(
     ensures gives { IfSome (F.held files.old) (λ m. Gives (λ answer. answer) result (answer_of (combine_order words.now) source m)) }
     ensures refusals { IfErr result StopsAtFiles }
     ensures stays { F.held files.new ≡ F.held files.old }
-    ensures cause { HasCause (F.faults files.old) (F.faults files.new) (IsErrOf result InputStop.FileFault) }
+    ensures counts { Counts (F.faults files.old) (F.faults files.new) (IsErrOf result InputStop.FileFault) }
 {
     let bytes = read_file(alloc, files, name_of(words, source))?;
     judged_answer(alloc, words, &bytes, source)
@@ -113,7 +111,7 @@ fn combine_files<F: Files>(
     ensures gives { IfSome (F.held files.old) (λ m. Gives combined result (combine_ready (combine_order words.now) m)) }
     ensures refusals { IfErr result StopsAtFiles }
     ensures stays { F.held files.new ≡ F.held files.old }
-    ensures cause { HasCause (F.faults files.old) (F.faults files.new) (IsErrOf result InputStop.FileFault) }
+    ensures counts { Counts (F.faults files.old) (F.faults files.new) (IsErrOf result InputStop.FileFault) }
 {
     let judged = read_note(alloc, files, words)?;
     let first = read_answer(alloc, files, words, Source::First)?;
@@ -127,10 +125,10 @@ pub fn combine<F: Files>(
     files: &mut F,
     words: &CombineWords<'_>,
 ) -> Result<Vec<u8>, Stopped>
-    ensures told { (drawn : _) → IfSome (F.held files.old) (λ m. Meets (λ text. text.items) (combine_ready (combine_order words.now) m) m (F.held files.new) drawn drawn result) }
+    ensures told { (drawn : _) → IfSome (F.held files.old) (λ m. Meets (combine_ready (combine_order words.now) m) m (F.held files.new) drawn drawn result) }
     ensures refusals { IfErr result EndsAtFiles }
     ensures stays { F.held files.new ≡ F.held files.old }
-    ensures file_fault { HasCause (F.faults files.old) (F.faults files.new) (IsErrOf result (stopped.Input input.FileFault)) }
+    ensures files { Counts (F.faults files.old) (F.faults files.new) (FilesFailed result) }
     ensures no_write { IsErrOf result Stopped.FileFault → ⊥ }
     ensures no_draw { IsErrOf result Stopped.DrawFault → ⊥ }
 {

@@ -1,12 +1,11 @@
 //! From the words to the command that they mean.
 ghost use Rattle.std.specs.Prelude.{◌≡◌, ◌⊎◌, [], Some, Err, IfSome, IfOk, IfErr, IfNone, IsErrOf, map};
 ghost use Rattle.std.specs.String.{string_bytes};
-ghost use Rattle.spl_outside.specs.Causes.{HasCause};
-ghost use Rattle.spl_outside.specs.Content.{KeepsBut};
+ghost use Rattle.spl_outside.specs.Causes.{Counts};
 ghost use Rattle.command_words.specs.Forms.{form_of};
 ghost use Rattle.command_words.specs.Views.{order, IsInBounds};
-ghost use Rattle.splinter_commands.specs.Commands.{DrawsNone, IsSilent, judged, names_of, output_names, ready_of, words_for};
-ghost use Rattle.splinter_commands.specs.Meets.{Meets};
+ghost use Rattle.splinter_commands.specs.Commands.{DrawsNone, IsSilent, conduct_of, judged};
+ghost use Rattle.splinter_commands.specs.Meets.{FilesFailed, Meets, TakesSome};
 ghost use Rattle.splinter_status.specs.Phases.{EndsAtFiles};
 ghost use Rattle.splinter_status.specs.declared.stops.InputStop.TheVariants as input;
 ghost use Rattle.splinter_status.specs.declared.stops.Refusal.TheVariants as refusal;
@@ -33,13 +32,12 @@ pub fn dispatch<T: Threads + Sync, F: Files, R: Draw, G: Gate + Sync>(
     gate: &G,
 ) -> Result<Vec<u8>, Stopped>
     requires { IsInBounds command.now }
-    ensures told { IfSome (F.held files.old) (λ m. Meets (λ text. text.items) (ready_of (order command.now) m) m (F.held files.new) (words_for (Some (order command.now)) (R.words draw.old)) (words_for (Some (order command.now)) (R.words draw.new)) result) }
-    ensures others { IfSome (F.held files.old) (λ m. KeepsBut (output_names (order command.now)) m (F.held files.new)) }
+    ensures told { IfSome (F.held files.old) (λ m. Meets ((conduct_of (order command.now)).ready m) m (F.held files.new) (R.words draw.old) (R.words draw.new) result) }
+    ensures front { TakesSome (R.words draw.old) (R.words draw.new) }
     ensures refusals { IfErr result EndsAtFiles }
     ensures untouched { (s : _) → result ≡ Err (stopped.Input s) → (draw.new ≡ draw.old) × (F.held files.new ≡ F.held files.old) }
-    ensures file_fault { HasCause (F.faults files.old) (F.faults files.new) (IsErrOf result (stopped.Input input.FileFault)) }
-    ensures late_fault { HasCause (F.faults files.old) (F.faults files.new) (IsErrOf result Stopped.FileFault) }
-    ensures draw { HasCause (R.faults draw.old) (R.faults draw.new) (IsErrOf result Stopped.DrawFault) }
+    ensures files { Counts (F.faults files.old) (F.faults files.new) (FilesFailed result) }
+    ensures draws { Counts (R.faults draw.old) (R.faults draw.new) (IsErrOf result Stopped.DrawFault) }
     ensures unwritten { IsErrOf result Stopped.DrawFault → F.held files.new ≡ F.held files.old }
     ensures undrawn { DrawsNone (Some (order command.now)) → draw.new ≡ draw.old }
     ensures silent { IsSilent (Some (order command.now)) → IfOk result (λ text. text.items ≡ []) }
@@ -61,14 +59,13 @@ pub fn carry_out<T: Threads + Sync, F: Files, R: Draw, G: Gate + Sync>(
     draw: &mut R,
     gate: &G,
 ) -> Result<Vec<u8>, Stopped>
-    ensures told { IfSome (F.held files.old) (λ m. Meets (λ text. text.items) (judged (form_of (map string_bytes words.now)) m) m (F.held files.new) (words_for (form_of (map string_bytes words.now)) (R.words draw.old)) (words_for (form_of (map string_bytes words.now)) (R.words draw.new)) result) }
+    ensures told { IfSome (F.held files.old) (λ m. Meets (judged (form_of (map string_bytes words.now)) m) m (F.held files.new) (R.words draw.old) (R.words draw.new) result) }
     ensures no_command { IfNone (form_of (map string_bytes words.now)) (((result ≡ Err (stopped.Input (input.Refused refusal.Usage))) ⊎ (result ≡ Err (stopped.Input input.OutOfMemory))) × (files.new ≡ files.old)) }
     ensures command { IfSome (form_of (map string_bytes words.now)) (λ _. IfErr result EndsAtFiles) }
-    ensures others { IfSome (F.held files.old) (λ m. KeepsBut (names_of (form_of (map string_bytes words.now))) m (F.held files.new)) }
+    ensures front { TakesSome (R.words draw.old) (R.words draw.new) }
     ensures untouched { (s : _) → result ≡ Err (stopped.Input s) → (draw.new ≡ draw.old) × (F.held files.new ≡ F.held files.old) }
-    ensures file_fault { HasCause (F.faults files.old) (F.faults files.new) (IsErrOf result (stopped.Input input.FileFault)) }
-    ensures late_fault { HasCause (F.faults files.old) (F.faults files.new) (IsErrOf result Stopped.FileFault) }
-    ensures draw { HasCause (R.faults draw.old) (R.faults draw.new) (IsErrOf result Stopped.DrawFault) }
+    ensures files { Counts (F.faults files.old) (F.faults files.new) (FilesFailed result) }
+    ensures draws { Counts (R.faults draw.old) (R.faults draw.new) (IsErrOf result Stopped.DrawFault) }
     ensures unwritten { IsErrOf result Stopped.DrawFault → F.held files.new ≡ F.held files.old }
     ensures undrawn { DrawsNone (form_of (map string_bytes words.now)) → draw.new ≡ draw.old }
     ensures silent { IsSilent (form_of (map string_bytes words.now)) → IfOk result (λ text. text.items ≡ []) }

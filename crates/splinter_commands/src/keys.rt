@@ -1,16 +1,13 @@
 //! The command `keys`: it begins a session, and writes the note and both key files.
-ghost use Rattle.std.specs.Prelude.{◌≡◌, Some, Err, IfSome, IfOk, IfErr, IsErrOf, OnOk};
-ghost use Rattle.spl_outside.specs.Causes.{HasCause};
-ghost use Rattle.spl_outside.specs.Content.{KeepsBut};
-ghost use Rattle.command_words.specs.Orders.{keys};
+ghost use Rattle.std.specs.Prelude.{◌≡◌, Err, IfSome, IfOk, IfErr, IsErrOf};
+ghost use Rattle.spl_outside.specs.Causes.{Counts};
 ghost use Rattle.command_words.specs.Views.{keys_order};
 ghost use Rattle.splinter_status.specs.Phases.{Gives, StopsAtFiles, EndsAtFiles};
-ghost use Rattle.splinter_status.specs.declared.stops.InputStop.TheVariants as input;
 ghost use Rattle.splinter_status.specs.declared.stops.Stopped.TheVariants as stopped;
 ghost use Rattle.splinter_steps.specs.Outputs.{IsLate};
-ghost use Rattle.splinter_steps.specs.Writes.{put_all, PutsSome};
-ghost use Rattle.splinter_commands.specs.Commands.{asked, begun_text, keys_ready, keys_names, round_files};
-ghost use Rattle.splinter_commands.specs.Meets.{Meets};
+ghost use Rattle.splinter_steps.specs.Writes.{Puts};
+ghost use Rattle.splinter_commands.specs.Commands.{asked, begun_text, keys_ready, round_files};
+ghost use Rattle.splinter_commands.specs.Meets.{FilesFailed, Meets, TakesSome};
 ghost use Rattle.splinter_commands.specs.Questions.{IsQuestion};
 
 use crate::rounds::begin;
@@ -45,7 +42,7 @@ fn read_question<F: Files>(
     ensures question { IfOk result IsQuestion }
     ensures refusals { IfErr result StopsAtFiles }
     ensures stays { F.held files.new ≡ F.held files.old }
-    ensures cause { HasCause (F.faults files.old) (F.faults files.new) (IsErrOf result InputStop.FileFault) }
+    ensures counts { Counts (F.faults files.old) (F.faults files.new) (IsErrOf result InputStop.FileFault) }
 {
     let shape = read_shape(alloc, files, words.shape)?;
     let asked = judge(alloc, &shape, words.query, &words.parameters)?;
@@ -63,11 +60,9 @@ fn write_round<F: Files>(
     words: &KeysWords<'_>,
     round: &RoundOut,
 ) -> Result<(), Stopped>
-    ensures whole { IfSome (F.held files.old) (λ m. OnOk result (F.held files.new ≡ Some (put_all (round_files (keys_order words.now) round.now) m))) }
-    ensures some { IfSome (F.held files.old) (λ m. PutsSome (round_files (keys_order words.now) round.now) m (F.held files.new)) }
-    ensures others { IfSome (F.held files.old) (λ m. KeepsBut (keys_names (keys_order words.now)) m (F.held files.new)) }
+    ensures puts { IfSome (F.held files.old) (λ m. Puts (round_files (keys_order words.now) round.now) m (F.held files.new) result) }
     ensures late { IfErr result IsLate }
-    ensures cause { HasCause (F.faults files.old) (F.faults files.new) (IsErrOf result Stopped.FileFault) }
+    ensures counts { Counts (F.faults files.old) (F.faults files.new) (IsErrOf result Stopped.FileFault) }
 {
     let note = Output {
         name: words.note,
@@ -98,15 +93,14 @@ pub fn keys<F: Files, R: Draw>(
     draw: &mut R,
     words: &KeysWords<'_>,
 ) -> Result<Vec<u8>, Stopped>
-    ensures told { IfSome (F.held files.old) (λ m. Meets (λ text. text.items) (keys_ready (keys_order words.now) m) m (F.held files.new) (R.words draw.old) (R.words draw.new) result) }
-    ensures others { IfSome (F.held files.old) (λ m. KeepsBut (keys_names (keys_order words.now)) m (F.held files.new)) }
+    ensures told { IfSome (F.held files.old) (λ m. Meets (keys_ready (keys_order words.now) m) m (F.held files.new) (R.words draw.old) (R.words draw.new) result) }
+    ensures front { TakesSome (R.words draw.old) (R.words draw.new) }
     ensures refusals { IfErr result EndsAtFiles }
     ensures untouched { (s : _) → result ≡ Err (stopped.Input s) → (draw.new ≡ draw.old) × (F.held files.new ≡ F.held files.old) }
     // All words are drawn before the first file is written.
     ensures unwritten { IsErrOf result Stopped.DrawFault → F.held files.new ≡ F.held files.old }
-    ensures file_fault { HasCause (F.faults files.old) (F.faults files.new) (IsErrOf result (stopped.Input input.FileFault)) }
-    ensures late_fault { HasCause (F.faults files.old) (F.faults files.new) (IsErrOf result Stopped.FileFault) }
-    ensures draw { HasCause (R.faults draw.old) (R.faults draw.new) (IsErrOf result Stopped.DrawFault) }
+    ensures files { Counts (F.faults files.old) (F.faults files.new) (FilesFailed result) }
+    ensures draws { Counts (R.faults draw.old) (R.faults draw.new) (IsErrOf result Stopped.DrawFault) }
 {
     let question = read_question(alloc, files, words)?;
     let round = begin(

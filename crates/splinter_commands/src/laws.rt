@@ -1,10 +1,11 @@
-//! Laws of sessions by files. Each function does nothing: its clauses are the laws.
-ghost use Rattle.std.specs.Prelude.{◌≡◌, ◌<◌, ◌^◌, Ok};
+//! Laws of commands, and of sessions by files. Each function does nothing: its clauses are the laws.
+ghost use Rattle.std.specs.Prelude.{◌≡◌, ◌<◌, ◌^◌, ℕ, false, List, [], Ok};
 ghost use Rattle.std.specs.List.{AllByRecursion};
 ghost use Rattle.spl_outside.specs.Content.{FileMap};
 ghost use Rattle.session_laws.specs.Sessions.{Session, IsSession, own_text};
-ghost use Rattle.command_words.specs.Orders.{CombineOrder};
-ghost use Rattle.splinter_commands.specs.Commands.{combine_ready, combined};
+ghost use Rattle.command_words.specs.Orders.{CombineOrder, Order};
+ghost use Rattle.splinter_commands.specs.Commands.{combine_ready, combined, conduct_of};
+ghost use Rattle.splinter_commands.specs.Effects.{Effect};
 ghost use Rattle.splinter_commands.specs.Sessions.{HoldsSession};
 
 use client_rounds::laws::expanders_give_seeds;
@@ -21,3 +22,10 @@ pub fn own_sessions_are_combined()
     own_sessions_are_spelled();
     own_sessions_end();
 }
+
+/// What a command may do at all is said with its order: one that may not draw draws no word over any files, and one that may
+/// not print prints nothing.
+pub fn commands_do_what_they_may()
+    ensures draws { (o : Order) (m : FileMap) (x : Effect) → (conduct_of o).ready m ≡ Ok x → (conduct_of o).may_draw ≡ false → x.draws ≡ 0 }
+    ensures prints { (o : Order) (m : FileMap) (x : Effect) → (conduct_of o).ready m ≡ Ok x → (conduct_of o).may_print ≡ false → (words : List ℕ) → x.prints words ≡ [] }
+{}

@@ -1,6 +1,6 @@
 //! Beginning a session.
 ghost use Rattle.std.specs.Prelude.{IfSome, IfOk, IfErr, IsErrOf};
-ghost use Rattle.spl_outside.specs.Causes.{HasCause};
+ghost use Rattle.spl_outside.specs.Causes.{Counts};
 ghost use Rattle.seed_expansion.specs.ChaChaExpansion.{chacha};
 ghost use Rattle.client_rounds.specs.Draws.{Draws};
 ghost use Rattle.client_rounds.specs.Rounds.{words_taken, IsRound, IsRoundOf};
@@ -26,9 +26,10 @@ pub fn begin<R: Draw>(
 ) -> Result<RoundOut, Stopped>
     requires { IsAsked shape.now (record { checked = checked.now; params = params.now }) }
     ensures told { IfSome (R.words draw.old) (λ ws. Draws (words_taken checked.now shape.now params.now) (IsRoundOf chacha checked.now shape.now params.now) ws (R.words draw.new) result) }
+    // Also where the words aren't told.
     ensures round { IfOk result (IsRound chacha checked.now shape.now params.now) }
     ensures drawing { IfErr result IsDrawing }
-    ensures cause { HasCause (R.faults draw.old) (R.faults draw.new) (IsErrOf result Stopped.DrawFault) }
+    ensures counts { Counts (R.faults draw.old) (R.faults draw.new) (IsErrOf result Stopped.DrawFault) }
 {
     params_are_few();
     match start(alloc, &ChaChaExpander, checked, params, shape, draw) {

@@ -1,15 +1,14 @@
 //! The command `trace`: both providers in one process.
 ghost use Rattle.std.specs.Prelude.{◌≡◌, [], Ok, Err, IfSome, IfOk, IfErr, IsErrOf};
-ghost use Rattle.spl_outside.specs.Causes.{HasCause};
+ghost use Rattle.spl_outside.specs.Causes.{Counts};
 ghost use Rattle.spl_words.specs.declared.provider.Provider.TheVariants.{Zero};
 ghost use Rattle.provider_core.specs.Bounds.{sums_bounded};
 ghost use Rattle.query_reader.specs.Accepted.{IsCheckedFor};
 ghost use Rattle.command_words.specs.Views.{trace_order, IsWorkers};
 ghost use Rattle.splinter_status.specs.Phases.{Gives, StopsAtFiles, EndsAtFiles};
-ghost use Rattle.splinter_status.specs.declared.stops.InputStop.TheVariants as input;
 ghost use Rattle.splinter_status.specs.declared.stops.Stopped.TheVariants as stopped;
 ghost use Rattle.splinter_commands.specs.Commands.{trace_ready, traced};
-ghost use Rattle.splinter_commands.specs.Meets.{Meets};
+ghost use Rattle.splinter_commands.specs.Meets.{FilesFailed, Meets, TakesSome};
 ghost use Rattle.splinter_commands.specs.Questions.{IsTraced};
 ghost use Rattle.splinter_commands.specs.Refusals.{or_provider_refusal};
 
@@ -74,7 +73,7 @@ fn read_traced<F: Files>(
     ensures traced { IfOk result IsTraced }
     ensures refusals { IfErr result StopsAtFiles }
     ensures stays { F.held files.new ≡ F.held files.old }
-    ensures cause { HasCause (F.faults files.old) (F.faults files.new) (IsErrOf result InputStop.FileFault) }
+    ensures counts { Counts (F.faults files.old) (F.faults files.new) (IsErrOf result InputStop.FileFault) }
 {
     let shape = read_shape(alloc, files, words.shape)?;
     let asked = judge(alloc, &shape, words.query, &words.parameters)?;
@@ -97,13 +96,14 @@ pub fn trace<T: Threads + Sync, F: Files, R: Draw, G: Gate + Sync>(
     gate: &G,
 ) -> Result<Vec<u8>, Stopped>
     requires { IsWorkers words.now.workers }
-    ensures told { IfSome (F.held files.old) (λ m. Meets (λ text. text.items) (trace_ready (trace_order words.now) m) m (F.held files.new) (R.words draw.old) (R.words draw.new) result) }
+    ensures told { IfSome (F.held files.old) (λ m. Meets (trace_ready (trace_order words.now) m) m (F.held files.new) (R.words draw.old) (R.words draw.new) result) }
     ensures refusals { IfErr result EndsAtFiles }
     ensures stays { F.held files.new ≡ F.held files.old }
+    ensures front { TakesSome (R.words draw.old) (R.words draw.new) }
     ensures undrawn { (s : _) → result ≡ Err (stopped.Input s) → draw.new ≡ draw.old }
     ensures no_write { IsErrOf result Stopped.FileFault → ⊥ }
-    ensures file_fault { HasCause (F.faults files.old) (F.faults files.new) (IsErrOf result (stopped.Input input.FileFault)) }
-    ensures draw { HasCause (R.faults draw.old) (R.faults draw.new) (IsErrOf result Stopped.DrawFault) }
+    ensures files { Counts (F.faults files.old) (F.faults files.new) (FilesFailed result) }
+    ensures draws { Counts (R.faults draw.old) (R.faults draw.new) (IsErrOf result Stopped.DrawFault) }
 {
     let traced = read_traced(alloc, files, words)?;
     let round = begin(
