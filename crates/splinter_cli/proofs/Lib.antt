@@ -1,4 +1,7 @@
-mod Cut
-mod Done
+mod Causes
+mod Ends
+mod Files
+mod Lines
+mod Promised
 mod Refused
-mod Written
+mod Sessions
