@@ -22,9 +22,9 @@ use Rattle.key_frames.specs.declared.frame.KeyFrame.{KeyFrame}
 use Rattle.key_frames.specs.declared.keys.Key.{Key}
 use Rattle.session_model.specs.KeyLists.{key_of, key_list}
 use Rattle.session_model.specs.Sessions.{key_frame, session_roots}
+use Rattle.session_model.proofs.KeyTrees.{depth_same}
 use Rattle.client_rounds.specs.Asked.{IsAsked}
 use Rattle.client_rounds.proofs.Trees.{slot_count}
-use Rattle.client_rounds.proofs.Allowed.{depth_same}
 use Rattle.client_rounds.proofs.Ends.{kind_of_sums, length-roots_of}
 use Rattle.provider_core.specs.Asking.{if_placed, if_sum, keys_placed}
 use Rattle.provider_core.specs.Layouts.{is_key_of, layout_differs}
