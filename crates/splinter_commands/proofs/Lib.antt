@@ -6,4 +6,5 @@ mod Combined
 mod Drawless
 mod SessionsEnd
 mod Stops
+mod Unordered
 mod Within
