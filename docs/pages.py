@@ -25,6 +25,7 @@ CORE = [
         [
             ("spl_outside", "Causes", "Rose"),
             ("spl_outside", "Causes", "HasCause"),
+            ("spl_outside", "Causes", "Counts"),
             ("spl_outside", "Content", "ReadsFile"),
             ("spl_outside", "Content", "WritesFile"),
             ("spl_outside", "Content", "DrawsWord"),
@@ -47,6 +48,7 @@ CORE = [
             ("query_reader", "Refusals", "refusal"),
             ("query_reader", "Matching", "matching_rows"),
             ("clear_sql", "Clear", "clear"),
+            ("clear_sql", "Meaning", "IsOutcome"),
             ("clear_sql", "AnswerText", "answer_text"),
         ],
     ),
@@ -69,7 +71,12 @@ CORE = [
             ("provider_core", "Answering", "answered"),
             ("client_rounds", "Finishing", "result_of"),
             ("command_words", "Forms", "form_of"),
+            ("splinter_commands", "Effects", "Effect"),
             ("splinter_commands", "Commands", "judged"),
+            ("splinter_cli", "Worlds", "World"),
+            ("splinter_cli", "Runs", "Leaves"),
+            ("splinter_cli", "Runs", "Tells"),
+            ("splinter_cli", "Runs", "Promises"),
         ],
     ),
 ]
