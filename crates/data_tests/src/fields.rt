@@ -92,9 +92,9 @@ const SEALED: &[u8] =
     b"abc\xba\x78\x16\xbf\x8f\x01\xcf\xea\x41\x41\x40\xde\x5d\xae\x22\x23\xb0\x03\x61\xa3\x96\x17\x7a\x9c\xb4\x10\xff\x61\xf2\x00\x15\xad\x00";
 
 /// Whether a digest follows so many bytes and ends the frame.
-fn sealed(bytes: &[u8], taken: u64) -> Result<(), FrameFault> {
+fn sealed(bytes: &[u8], taken: u8) -> Result<(), FrameFault> {
     let mut fields = start(bytes)?;
-    take(&mut fields, taken)?;
+    take(&mut fields, u64::from(taken))?;
     digest(&mut fields)
 }
 

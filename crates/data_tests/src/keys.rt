@@ -1,5 +1,9 @@
 //! A key frame and a note are read up to their first fault, and written again. Their bytes are written by hand; their
 //! digests are those that another program computed.
+ghost use Rattle.std.specs.Prelude.{IfOk};
+ghost use Rattle.key_frames.specs.Frames.{FrameAllowed};
+ghost use Rattle.key_frames.specs.Notes.{NoteAllowed};
+
 use crate::fixtures::joined;
 use interval_keys::ThresholdKey;
 use key_frames::{Key, KeyFrame, Note, read_key_frame, read_note, write_key_frame, write_note};
@@ -45,7 +49,9 @@ fn frame_with(alloc: Global, at: usize, byte: u8) -> Result<Vec<u8>, AllocError>
 }
 
 /// The key frame that they spell.
-fn read_frame_with(alloc: Global, at: usize, byte: u8) -> Result<KeyFrame, FrameFault> {
+fn read_frame_with(alloc: Global, at: usize, byte: u8) -> Result<KeyFrame, FrameFault>
+    ensures { IfOk result (λ frame. FrameAllowed frame) }
+{
     let bytes = frame_with(alloc, at, byte)?;
     read_key_frame(alloc, &bytes)
 }
@@ -131,7 +137,9 @@ fn note_with(alloc: Global, at: usize, byte: u8) -> Result<Vec<u8>, AllocError> 
 }
 
 /// The note that they spell.
-fn read_note_with(alloc: Global, at: usize, byte: u8) -> Result<Note, FrameFault> {
+fn read_note_with(alloc: Global, at: usize, byte: u8) -> Result<Note, FrameFault>
+    ensures { IfOk result (λ note. NoteAllowed note) }
+{
     let bytes = note_with(alloc, at, byte)?;
     read_note(alloc, &bytes)
 }
