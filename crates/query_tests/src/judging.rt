@@ -1,4 +1,6 @@
 //! Queries and parameters are judged in one step: taken with what is known of them, or refused for the first reason.
+ghost use Rattle.query_reader.specs.Accepted.{IsCheckedFor};
+
 use crate::fixtures::{FLIGHTS, is_refused, is_taken, is_told, schema_of, words_of};
 use judged_queries::{judge_codes, judge_query, judge_query_bytes, judge_words};
 use query_reader::{Checked, ParamFault};
@@ -61,7 +63,9 @@ fn bytes_are_judged(rt: HostRuntime) -> Result<(), ShapeFault> {
 const TWO: &str = "SELECT COUNT(*) FROM flights WHERE origin = ? AND price = ?";
 
 /// Whether codes of values are taken.
-fn takes_codes(alloc: Global, schema: &Schema, checked: &Checked, codes: &[u128]) -> bool {
+fn takes_codes(alloc: Global, schema: &Schema, checked: &Checked, codes: &[u128]) -> bool
+    requires { IsCheckedFor checked.now schema.now }
+{
     is_taken(judge_codes(alloc, checked, schema, codes), codes)
 }
 
@@ -72,7 +76,9 @@ fn refuses_codes(
     checked: &Checked,
     codes: &[u128],
     wanted: &str,
-) -> bool {
+) -> bool
+    requires { IsCheckedFor checked.now schema.now }
+{
     is_refused(alloc, judge_codes(alloc, checked, schema, codes), wanted)
 }
 
@@ -115,7 +121,9 @@ fn is_judged(
     checked: &Checked,
     text: &str,
     wanted: Result<&[u128], &str>,
-) -> Result<bool, ParamFault> {
+) -> Result<bool, ParamFault>
+    requires { IsCheckedFor checked.now schema.now }
+{
     let words = words_of(alloc, text)?;
     let judged = judge_words(alloc, checked, schema, words.as_slice());
     match wanted {
@@ -136,7 +144,9 @@ fn first_other_words(
     alloc: Global,
     schema: &Schema,
     checked: &Checked,
-) -> Result<Option<&'static str>, ParamFault> {
+) -> Result<Option<&'static str>, ParamFault>
+    requires { IsCheckedFor checked.now schema.now }
+{
     for (text, wanted) in WORDS {
         if !is_judged(alloc, schema, checked, text, *wanted)? {
             return Ok(Some(text));
