@@ -6,7 +6,9 @@ use Rattle.std.specs.Int.{w8, w32, w64, w128, to_be_bytes}
 use Rattle.std.proofs.lemmas.List.{append-nil, append_assoc, length-append}
 use Rattle.frame_fields.specs.Typed.{IsBytes}
 use Rattle.spl_words.specs.declared.fault.FrameFault.{FrameFault}
-use Rattle.frame_fields.specs.Reading.{Gives, frame_at, take_at, number_at, magic_at, version_at, within_at, provider_at, many_at}
+use Rattle.spl_words.specs.Results.{Gives}
+use Rattle.spl_words.specs.declared.fault.FrameFault.TheVariants.{OutOfMemory}
+use Rattle.frame_fields.specs.Reading.{frame_at, take_at, number_at, magic_at, version_at, within_at, provider_at, many_at}
 use Rattle.frame_fields.proofs.Laws.{IsField, Any, and_then, done_field, restate_field, chunk_field, number_field, magic_field, version_field, within_field, provider_field, many_field, length_of_parts, length-sealed, frame_law, frame_only, reader_found, reader_only, no_prefix, wide8, wide32, wide64}
 use Rattle.frame_fields.proofs.Wide.{wide128}
 use Rattle.answer_frames.specs.declared.answer.AnswerFrame.{AnswerFrame}
@@ -53,13 +55,13 @@ answer_read bytes f of =
 pub length-answer : (bytes : List ℕ) (f : AnswerFrame) → AnswerOf bytes f → length bytes ≡ answer_length f
 length-answer bytes f of = ap length of.spelled ∙ length-spelling f of.typed
 
-pub is_found : (bytes : List ℕ) (r : Result AnswerFrame FrameFault) → IsBytes bytes → Gives (λ x. x) r (frame_at fields_at bytes) → IfOk r (λ f. AnswerOf bytes f)
+pub is_found : (bytes : List ℕ) (r : Result AnswerFrame FrameFault) → IsBytes bytes → Gives OutOfMemory (λ x. x) r (frame_at fields_at bytes) → IfOk r (λ f. AnswerOf bytes f)
 is_found bytes (Ok f) are given =
     let h = reader_found fields_at (λ f. Allowed f × Typed f) body fields_field bytes (Ok f) are given in
     record { allowed = h.0.0; typed = h.0.1; spelled = h.1 }
 is_found bytes (Err e) are given = tt
 
-pub is_only : (bytes : List ℕ) (r : Result AnswerFrame FrameFault) → Gives (λ x. x) r (frame_at fields_at bytes) → (f : AnswerFrame) → AnswerOf bytes f → Gives (λ x. x) r (Ok f)
+pub is_only : (bytes : List ℕ) (r : Result AnswerFrame FrameFault) → Gives OutOfMemory (λ x. x) r (frame_at fields_at bytes) → (f : AnswerFrame) → AnswerOf bytes f → Gives OutOfMemory (λ x. x) r (Ok f)
 is_only bytes r given f of =
     reader_only fields_at (λ f. Allowed f × Typed f) body fields_field bytes r given f (of.allowed, of.typed) (omega (arith, length-spelling f of.typed, of.allowed.count)) of.spelled
 

@@ -1,7 +1,9 @@
 //! Reading an answer frame.
 ghost use Rattle.std.specs.Prelude.{◌≡◌, IfOk, Ok};
 ghost use Rattle.std.specs.Int.{w64};
-ghost use Rattle.frame_fields.specs.Reading.{Reads, Gives, many_at, number_at, frame_at};
+ghost use Rattle.spl_words.specs.Results.{Gives};
+ghost use Rattle.spl_words.specs.declared.fault.FrameFault.TheVariants.{OutOfMemory};
+ghost use Rattle.frame_fields.specs.Reading.{Reads, many_at, number_at, frame_at};
 ghost use Rattle.answer_frames.specs.declared.answer.AnswerFrame.{AnswerFrame as Frame};
 ghost use Rattle.answer_frames.specs.Reading.{fields_at};
 ghost use Rattle.answer_frames.specs.Spelling.{AnswerOf};
@@ -52,7 +54,7 @@ fn fields_of(alloc: Global, fields: &mut Fields) -> Result<AnswerFrame, FrameFau
 /// The fields and the digest, and nothing behind them.
 #[tactic(auto, unfolding(frame_fields::specs::Reading::frame_at))]
 fn frame_of(alloc: Global, bytes: &[u8]) -> Result<AnswerFrame, FrameFault>
-    ensures { Gives (λ f. f) result (frame_at fields_at bytes.now) }
+    ensures { Gives OutOfMemory (λ f. f) result (frame_at fields_at bytes.now) }
 {
     let mut fields = start(bytes)?;
     let frame = fields_of(alloc, &mut fields)?;
@@ -64,8 +66,8 @@ fn frame_of(alloc: Global, bytes: &[u8]) -> Result<AnswerFrame, FrameFault>
 /// only those.
 pub fn read_answer(alloc: Global, bytes: &[u8]) -> Result<AnswerFrame, FrameFault>
     ensures found { IfOk result (λ f. AnswerOf bytes.now f) }
-    ensures only { (f : Frame) → AnswerOf bytes.now f → Gives (λ x. x) result (Ok f) }
-    ensures fault { Gives (λ f. f) result (frame_at fields_at bytes.now) }
+    ensures only { (f : Frame) → AnswerOf bytes.now f → Gives OutOfMemory (λ x. x) result (Ok f) }
+    ensures fault { Gives OutOfMemory (λ f. f) result (frame_at fields_at bytes.now) }
 {
     frame_of(alloc, bytes)
 }

@@ -4,7 +4,7 @@ use Rattle.std.specs.List.{AllByRecursion}
 use Rattle.cell_merge.specs.Rows.{Interleaves}
 use Rattle.cell_merge.specs.Rows.Interleaves.{none, left, right}
 use Rattle.cell_merge.specs.declared.entry.Entry.{Entry}
-use Rattle.cell_merge.specs.Entries.{before, ordered, put, in_order}
+use Rattle.cell_merge.specs.Entries.{before, ordered, insertion, in_order}
 use Rattle.cell_merge.proofs.Lists.{each-take, each_left, each_right}
 use Rattle.cell_merge.proofs.Sorting.{put_comm, in_order-append, take-puts, puts, InOrder, in_order_fixed, each-in_order, InOrder-in_order}
 
@@ -24,27 +24,27 @@ abbrev pub ApartEntries : List Entry → Type 0
 ApartEntries [] = Unit {0}
 ApartEntries (x ∷ l) = Away x l × ApartEntries l
 
-pub in_order_move : (x : Entry) (a b : List Entry) → Away x a → in_order (a ++ x ∷ b) ≡ put x (in_order (a ++ b))
+pub in_order_move : (x : Entry) (a b : List Entry) → Away x a → in_order (a ++ x ∷ b) ≡ insertion before x (in_order (a ++ b))
 unfolding ordered
 in_order_move x [] b h = refl
-in_order_move x (y ∷ a) b h = ap (λ r. put y r) (in_order_move x a b h.1) ∙ sym (put_comm x y (in_order (a ++ b)) h.0)
+in_order_move x (y ∷ a) b h = ap (λ r. insertion before y r) (in_order_move x a b h.1) ∙ sym (put_comm x y (in_order (a ++ b)) h.0)
 
 append_nil_order : (a : List Entry) → in_order (a ++ []) ≡ in_order a
 unfolding ordered
 append_nil_order [] = refl
-append_nil_order (x ∷ a) = ap (λ r. put x r) (append_nil_order a)
+append_nil_order (x ∷ a) = ap (λ r. insertion before x r) (append_nil_order a)
 
 pub in_order_swap : (a b : List Entry) → Separate a b → in_order (a ++ b) ≡ in_order (b ++ a)
 unfolding ordered
 in_order_swap [] b h = sym (append_nil_order b)
-in_order_swap (x ∷ a) b h = ap (λ r. put x r) (in_order_swap a b h.1) ∙ sym (in_order_move x b a h.0)
+in_order_swap (x ∷ a) b h = ap (λ r. insertion before x r) (in_order_swap a b h.1) ∙ sym (in_order_move x b a h.0)
 
 pub in_order_interleaved : (a b c : List Entry) → Interleaves a b c → ApartEntries c → in_order c ≡ in_order (a ++ b)
 unfolding ordered
 in_order_interleaved _ _ _ none h = refl
-in_order_interleaved _ _ _ (left x a b c i) h = ap (λ r. put x r) (in_order_interleaved a b c i h.1)
+in_order_interleaved _ _ _ (left x a b c i) h = ap (λ r. insertion before x r) (in_order_interleaved a b c i h.1)
 in_order_interleaved _ _ _ (right x a b c i) h =
-    ap (λ r. put x r) (in_order_interleaved a b c i h.1) ∙ sym (in_order_move x a b (each_left (λ y. x.place ≢ y.place) a b c i h.0))
+    ap (λ r. insertion before x r) (in_order_interleaved a b c i h.1) ∙ sym (in_order_move x a b (each_left (λ y. x.place ≢ y.place) a b c i h.0))
 
 pub separate_interleaved : (a b c : List Entry) → Interleaves a b c → ApartEntries c → Separate a b
 separate_interleaved _ _ _ none h = tt

@@ -4,73 +4,14 @@ use Rattle.std.proofs.lemmas.Bool.{cases_Bool, cond-true, cond-false, false≢tr
 use Rattle.std.proofs.lemmas.List.{take-take, take_all, append-nil, append_assoc, drop_all, length-drop}
 use borrow.Rule.Slice.PartMut.{put_mid, post_of}
 use Rattle.cell_merge.specs.declared.entry.Entry.{Entry}
-use Rattle.cell_merge.specs.Entries.{before, placed, ordered, entries_of, words_of}
-use Rattle.cell_merge.proofs.Sorting.{put-behind, put-ahead, put-nil, before-asym, before-through}
+use Rattle.cell_merge.specs.Entries.{Ranks, before, late_insertion, ordered, entries_of, words_of}
+use Rattle.cell_merge.proofs.Sorting.{before-asym, before-through}
+use Rattle.cell_merge.proofs.Order.{best_more}
 use Rattle.cell_merge.proofs.Words.{words_of-take}
-use Rattle.cell_merge.specs.Triples.{behind, entry_at, kept, triples}
-use Rattle.cell_merge.proofs.Triples.{behind-first, behind-later, behind-nil}
+use Rattle.cell_merge.specs.Triples.{entry_at, kept, triples}
 
--- ---- from the front and from the back
-
--- y < z where x ≤ .. as `before` has no law of its own for this
-before-between : (x y z : Entry) → before x z ≡ true → before z y ≡ true → before x y ≡ true
-before-between x y z p q =
-    elim (cases_Bool (before x y)) [
-      | inl t ↦ t
-      | inr f ↦ absurd (false≢true (sym (before-through x y z f (before-asym z y q)) ∙ p))
-    ]
-
-behind_step : (x y z : Entry) (l : List Entry) → placed before y (behind x l) ≡ behind x (placed before y l)
-    → placed before y (behind x (z ∷ l)) ≡ behind x (placed before y (z ∷ l))
-behind_step x y z l ih =
-    elim (cases_Bool (before z y)) [
-      | inl zy ↦ elim (cases_Bool (before x z)) [
-        | inl xz ↦
-            let xy = before-between x y z xz zy in
-            cc (behind-first x z l xz, put-behind y z l zy, behind-first x z (placed before y l) xz, put-behind y x (z ∷ l) xy)
-        | inr xz ↦ cc (behind-later x z l xz, put-behind y z l zy, behind-later x z (placed before y l) xz, put-behind y z (behind x l) zy)
-      ]
-      | inr zy ↦ elim (cases_Bool (before x z)) [
-        | inl xz ↦ elim (cases_Bool (before x y)) [
-          | inl xy ↦ cc (behind-first x z l xz, put-ahead y z l zy, put-behind y x (z ∷ l) xy, behind-first x y (z ∷ l) xy)
-          | inr xy ↦ cc (behind-first x z l xz, put-ahead y z l zy, put-ahead y x (z ∷ l) xy, behind-later x y (z ∷ l) xy)
-        ]
-        | inr xz ↦
-            elim (cases_Bool (before x y)) [
-              | inl xy ↦ absurd (false≢true (sym (before-through x z y xz zy) ∙ xy))
-              | inr xy ↦ cc (behind-later x z l xz, put-ahead y z l zy, put-ahead y z (behind x l) zy, behind-later x y (z ∷ l) xy)
-            ]
-      ]
-    ]
-
-placed_behind : (x y : Entry) (l : List Entry) → placed before y (behind x l) ≡ behind x (placed before y l)
-placed_behind x y [] =
-    elim (cases_Bool (before x y)) [
-      | inl xy ↦ cc (behind-nil x, put-nil y, behind-first x y [] xy, put-behind y x [] xy, put-nil y)
-      | inr xy ↦ cc (behind-nil x, put-nil y, behind-later x y [] xy, put-ahead y x [] xy)
-    ]
-placed_behind x y (z ∷ l) = behind_step x y z l (placed_behind x y l)
-
-pub ordered-push : (x : Entry) (l : List Entry) → ordered before (l ++ x ∷ []) ≡ behind x (ordered before l)
-unfolding ordered
-ordered-push x [] = put-nil x ∙ sym (behind-nil x)
-ordered-push x (y ∷ l) = ap (λ r. placed before y r) (ordered-push x l) ∙ placed_behind x y (ordered before l)
-
-take_cons_take : (k : ℕ) (y : Entry) (l : List Entry) → take k (y ∷ l) ≡ take k (y ∷ take k l)
-take_cons_take zero y l = refl
-take_cons_take (suc k) y l = ap (λ r. y ∷ r) (sym (take-take k (suc k) l (omega arith)))
-
-take_behind_step : (k : ℕ) (x y : Entry) (l : List Entry) → take k (behind x l) ≡ take k (behind x (take k l)) → take (suc k) (behind x (y ∷ l)) ≡ take (suc k) (behind x (y ∷ take k l))
-take_behind_step k x y l ih =
-    elim (cases_Bool (before x y)) [
-      | inl p ↦ rw (behind-first x y l p, behind-first x y (take k l) p) (ap (λ r. x ∷ r) (take_cons_take k y l))
-      | inr q ↦ rw (behind-later x y l q, behind-later x y (take k l) q) (ap (λ r. y ∷ r) ih)
-    ]
-
-pub take-behind : (k : ℕ) (x : Entry) (l : List Entry) → take k (behind x l) ≡ take k (behind x (take k l))
-take-behind zero x l = refl
-take-behind (suc k) x [] = refl
-take-behind (suc k) x (y ∷ l) = take_behind_step k x y l (take-behind k x l)
+ranks : Ranks before
+ranks = record { asym = before-asym; through = before-through }
 
 -- ---- entries among words
 
@@ -78,9 +19,9 @@ abbrev pub one : Entry → List Entry
 one x = cond (eqb x.place 0) [] (x ∷ [])
 
 kept_step : (k : ℕ) (x : Entry) (l : List Entry) (t : Bool)
-    → take k (cond t (take k (ordered before l)) (behind x (take k (ordered before l)))) ≡ take k (ordered before (l ++ cond t [] (x ∷ [])))
+    → take k (cond t (take k (ordered before l)) (late_insertion before x (take k (ordered before l)))) ≡ take k (ordered before (l ++ cond t [] (x ∷ [])))
 kept_step k x l true = take-take k k (ordered before l) (omega arith) ∙ ap (λ r. take k (ordered before r)) (sym (append-nil l))
-kept_step k x l false = sym (take-behind k x (ordered before l)) ∙ ap (λ r. take k r) (sym (ordered-push x l))
+kept_step k x l false = best_more before ranks k x l
 
 pub kept_more : (k : ℕ) (x : Entry) (l : List Entry) → take k (kept x (take k (ordered before l))) ≡ take k (ordered before (l ++ one x))
 unfolding kept
@@ -88,11 +29,11 @@ kept_more k x l = kept_step k x l (eqb x.place 0)
 
 pub kept_none : (x : Entry) (l : List Entry) → x.place ≡ 0 → kept x l ≡ l
 unfolding kept
-kept_none x l e = cond-true (eqb x.place 0) l (behind x l) (eq-eqb x.place 0 e)
+kept_none x l e = cond-true (eqb x.place 0) l (late_insertion before x l) (eq-eqb x.place 0 e)
 
-pub kept_some : (x : Entry) (l : List Entry) → (x.place ≡ 0 → ⊥) → kept x l ≡ behind x l
+pub kept_some : (x : Entry) (l : List Entry) → (x.place ≡ 0 → ⊥) → kept x l ≡ late_insertion before x l
 unfolding kept
-kept_some x l e = cond-false (eqb x.place 0) l (behind x l) (ne_eqb x.place 0 e)
+kept_some x l e = cond-false (eqb x.place 0) l (late_insertion before x l) (ne_eqb x.place 0 e)
 
 past_three : (p s h : ℕ) (r : List ℕ) (i c : ℕ) → slice_index (p ∷ s ∷ h ∷ r) (3 * suc i + c) ≡ slice_index r (3 * i + c)
 past_three p s h r i c = let e : 3 * suc i + c ≡ suc (suc (suc (3 * i + c))) = omega arith in rw e refl

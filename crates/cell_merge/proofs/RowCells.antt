@@ -21,7 +21,7 @@ use Rattle.spl_values.specs.declared.values.Value.TheVariants as value
 use Rattle.cell_merge.specs.declared.spec.CellItem.{CellItem}
 use Rattle.cell_merge.specs.declared.entry.Entry.{Entry}
 use Rattle.cell_merge.specs.Rows.{Row, Apart, code}
-use Rattle.cell_merge.specs.Entries.{placed, ordered, in_order, words_of, entry}
+use Rattle.cell_merge.specs.Entries.{insertion, ordered, in_order, words_of, entry}
 use Rattle.cell_merge.specs.Triples.{with_entry}
 use Rattle.cell_merge.specs.Cells.{Addends, item_width, items_width, item_words, items_words, block, block_width, greatest, least, with_label}
 use Rattle.cell_merge.specs.TableRows.{HasLabels, IsNumbers, codes_of, kind_in, kind_or_numbers, row_in, rows_of}
@@ -111,7 +111,7 @@ unfolding least
 least_of_one x = refl
 
 words_of_one : (k : ℕ) (e : Entry) → words_of (suc k) (in_order (e ∷ [])) ≡ e.place ∷ e.sort ∷ e.show ∷ replicate (3 * k) 0
-unfolding words_of ordered placed
+unfolding words_of ordered insertion
 words_of_one k e = ap (λ l. e.place ∷ e.sort ∷ e.show ∷ l) (no_words k)
 
 pub one_entry : (k : ℕ) (e : Entry) (out : List ℕ) → 0 < k → out ≡ replicate (3 * k) 0 → with_entry out 0 e ≡ words_of k (in_order (e ∷ []))

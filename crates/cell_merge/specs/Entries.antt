@@ -7,19 +7,20 @@ use Rattle.cell_merge.specs.Rows.{Row, code}
 unfoldable pub before : Entry → Entry → Bool
 before x y = nat_lt y.sort x.sort || (x.sort == y.sort && nat_lt x.place y.place)
 
--- x put in behind all that come before it
-unfoldable pub placed : {A : Type 0} → (A → A → Bool) → A → List A → List A
-placed before x [] = x ∷ []
-placed before x (y ∷ ys) = if before y x then y ∷ placed before x ys else x ∷ y ∷ ys
+-- a list with x behind the items that come before it
+unfoldable pub insertion : {A : Type 0} → (A → A → Bool) → A → List A → List A
+insertion before x [] = x ∷ []
+insertion before x (y ∷ ys) = if before y x then y ∷ insertion before x ys else x ∷ y ∷ ys
+
+-- the same with x behind its ties: before the first item that it comes before
+unfoldable pub late_insertion : {A : Type 0} → (A → A → Bool) → A → List A → List A
+late_insertion before x [] = x ∷ []
+late_insertion before x (y ∷ ys) = if before x y then x ∷ y ∷ ys else y ∷ late_insertion before x ys
 
 -- a list in an order, the items that tie as they stood
 unfoldable pub ordered : {A : Type 0} → (A → A → Bool) → List A → List A
 ordered before [] = []
-ordered before (x ∷ xs) = placed before x (ordered before xs)
-
--- an entry put in behind all that come before it
-abbrev pub put : Entry → List Entry → List Entry
-put x xs = placed before x xs
+ordered before (x ∷ xs) = insertion before x (ordered before xs)
 
 -- entries from the best to the least
 abbrev pub in_order : List Entry → List Entry
@@ -44,8 +45,3 @@ entry sort show r = record { place = r.number + 1; sort = code sort r; show = co
 pub record Ranks {A : Type 0} (before : A → A → Bool) : Type 0 where
   pub asym : (x y : A) → before x y ≡ true → before y x ≡ false
   pub through : (x y z : A) → before x y ≡ false → before y z ≡ false → before x z ≡ false
-
--- x put in before the first that it comes before
-unfoldable pub inserted : {A : Type 0} → (A → A → Bool) → A → List A → List A
-inserted before x [] = x ∷ []
-inserted before x (y ∷ ys) = if before x y then x ∷ y ∷ ys else y ∷ inserted before x ys

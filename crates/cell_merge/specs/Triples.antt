@@ -1,7 +1,7 @@
 -- A list of words seen as entries of three words each.
 use Rattle.std.specs.Prelude.{ℕ, zero, suc, ◌+◌, ◌*◌, Bool, true, false, ◌==◌, List, [], ◌∷◌, ◌++◌, slice_index, slice_set, if◌then◌else◌}
 use Rattle.cell_merge.specs.declared.entry.Entry.{Entry}
-use Rattle.cell_merge.specs.Entries.{before}
+use Rattle.cell_merge.specs.Entries.{before, late_insertion}
 
 -- the i-th entry in a list of words
 abbrev pub entry_at : List ℕ → ℕ → Entry
@@ -16,16 +16,11 @@ unfoldable pub triples : ℕ → List ℕ → List Entry
 triples zero ws = []
 triples (suc n) ws = triples n ws ++ entry_at ws n ∷ []
 
--- x put in before the first that it comes before
-unfoldable pub behind : Entry → List Entry → List Entry
-behind x [] = x ∷ []
-behind x (y ∷ ys) = if before x y then x ∷ y ∷ ys else y ∷ behind x ys
-
 -- what stands behind a place: the entry that moves down, or, while none was placed, the entry that is to be placed
-unfoldable pub after : Bool → Entry → List Entry → List Entry
-after true x ys = x ∷ ys
-after false x ys = behind x ys
+unfoldable pub remainder : Bool → Entry → List Entry → List Entry
+remainder true x ys = x ∷ ys
+remainder false x ys = late_insertion before x ys
 
--- x put in, unless it is no entry
+-- entries with one more among them, unless it is no entry
 unfoldable pub kept : Entry → List Entry → List Entry
-kept x ys = if x.place == 0 then ys else behind x ys
+kept x ys = if x.place == 0 then ys else late_insertion before x ys

@@ -44,14 +44,6 @@ impl CellItems {
     {
         self.items.as_slice()
     }
-
-    /// The items, taken out.
-    pub fn into_vec(self) -> Vec<CellItem>
-        ensures { result.items ≡ self }
-    {
-        let CellItems { items } = self;
-        items
-    }
 }
 
 impl Clone for CellItems {

@@ -1,9 +1,9 @@
 //! The best entries of two lists, in place.
 
 ghost use Rattle.std.specs.Prelude.{◌≡◌, ℕ, ◌+◌, ◌*◌, ◌^◌, ◌<◌, ◌≤◌, List, ◌∷◌, ◌++◌, min, length, slice_index, slice_set, take, if◌then◌else◌};
-ghost use Rattle.cell_merge.specs.Entries.{before, ordered, entries_of, words_of};
+ghost use Rattle.cell_merge.specs.Entries.{before, late_insertion, ordered, entries_of, words_of};
 ghost use Rattle.cell_merge.specs.declared.entry.Entry.{Entry};
-ghost use Rattle.cell_merge.specs.Triples.{after, behind, entry_at, kept, triples, with_entry};
+ghost use Rattle.cell_merge.specs.Triples.{entry_at, kept, remainder, triples, with_entry};
 
 use crate::Entry;
 
@@ -37,7 +37,7 @@ pub(crate) fn write_entry(words: &mut [u64], i: usize, entry: Entry)
 // Writes what is to stand at i, and gives what is to stand behind it. Once one was placed, each moves down by one.
 fn push_down(words: &mut [u64], i: usize, moved: Entry, placed: bool) -> (Entry, bool)
     requires { 3 * i + 3 ≤ length words.old }
-    ensures entries { (xs : List Entry) → entry_at words.new i ∷ after result.1 result.0 xs ≡ after placed moved (entry_at words.old i ∷ xs) }
+    ensures entries { (xs : List Entry) → entry_at words.new i ∷ remainder result.1 result.0 xs ≡ remainder placed moved (entry_at words.old i ∷ xs) }
     ensures low { (j : ℕ) → j < 3 * i → slice_index words.new j ≡ slice_index words.old j }
     ensures high { (j : ℕ) → 3 * i + 3 ≤ j → slice_index words.new j ≡ slice_index words.old j }
 {
@@ -58,7 +58,7 @@ fn insert(words: &mut [u64], most: usize, used: usize, entry: Entry) -> usize
     requires length { length words.old ≡ 3 * most }
     requires used { used ≤ most }
     ensures count { result ≡ min most (used + 1) }
-    ensures entries { triples result words.new ≡ take most (behind entry (triples used words.old)) }
+    ensures entries { triples result words.new ≡ take most (late_insertion before entry (triples used words.old)) }
     ensures rest { (j : ℕ) → 3 * (used + 1) ≤ j → slice_index words.new j ≡ slice_index words.old j }
 {
     let mut moved = entry;

@@ -15,7 +15,7 @@ use Rattle.clear_sql.specs.declared.answer.Outcome.{Outcome}
 use Rattle.clear_sql.specs.declared.answer.Outcome.TheVariants as outcome
 use Rattle.clear_sql.specs.declared.answer.Group.{Group}
 use Rattle.cell_merge.specs.Rows.{Row, code}
-use Rattle.cell_merge.specs.Entries.{before, placed, ordered, in_order, entries_of, words_of, entry}
+use Rattle.cell_merge.specs.Entries.{before, insertion, ordered, in_order, entries_of, words_of, entry}
 use Rattle.cell_merge.specs.Cells.{addend, item_width, item_words, items_words, block, block_width, with_label, groups, cell}
 use Rattle.cell_merge.specs.TableRows.{adds_in}
 use Rattle.clear_sql.specs.Clear.{value_in, is_better, top_row, clear_item, clear_items, clear_label, clear_by, clear, SumFits, SumsFit}
@@ -29,24 +29,24 @@ before-entry : (s h : ℕ) (x y : Row) → before (entry s h x) (entry s h y) �
 unfolding before is_better
 before-entry s h x y = grind (arith, nat_tests)
 
-placed-step : (s h : ℕ) (x y : Row) (ys : List Row) → placed before (entry s h x) (map (entry s h) ys) ≡ map (entry s h) (placed (is_better s) x ys)
+placed-step : (s h : ℕ) (x y : Row) (ys : List Row) → insertion before (entry s h x) (map (entry s h) ys) ≡ map (entry s h) (insertion (is_better s) x ys)
     → (t u : Bool) → t ≡ u
-    → cond t (entry s h y ∷ placed before (entry s h x) (map (entry s h) ys)) (entry s h x ∷ entry s h y ∷ map (entry s h) ys)
-    ≡ map (entry s h) (cond u (y ∷ placed (is_better s) x ys) (x ∷ y ∷ ys))
+    → cond t (entry s h y ∷ insertion before (entry s h x) (map (entry s h) ys)) (entry s h x ∷ entry s h y ∷ map (entry s h) ys)
+    ≡ map (entry s h) (cond u (y ∷ insertion (is_better s) x ys) (x ∷ y ∷ ys))
 placed-step s h x y ys ih true true e = ap (λ r. entry s h y ∷ r) ih
 placed-step s h x y ys ih false false e = refl
 placed-step s h x y ys ih true false e = cc
 placed-step s h x y ys ih false true e = cc
 
-placed-map : (s h : ℕ) (x : Row) (ys : List Row) → placed before (entry s h x) (map (entry s h) ys) ≡ map (entry s h) (placed (is_better s) x ys)
-unfolding placed
+placed-map : (s h : ℕ) (x : Row) (ys : List Row) → insertion before (entry s h x) (map (entry s h) ys) ≡ map (entry s h) (insertion (is_better s) x ys)
+unfolding insertion
 placed-map s h x [] = refl
 placed-map s h x (y ∷ ys) = placed-step s h x y ys (placed-map s h x ys) (before (entry s h y) (entry s h x)) (is_better s y x) (before-entry s h y x)
 
 ordered-map : (s h : ℕ) (rows : List Row) → in_order (map (entry s h) rows) ≡ map (entry s h) (ordered (is_better s) rows)
 unfolding ordered
 ordered-map s h [] = refl
-ordered-map s h (r ∷ rows) = ap (λ l. placed before (entry s h r) l) (ordered-map s h rows) ∙ placed-map s h r (ordered (is_better s) rows)
+ordered-map s h (r ∷ rows) = ap (λ l. insertion before (entry s h r) l) (ordered-map s h rows) ∙ placed-map s h r (ordered (is_better s) rows)
 
 one_row : (columns : List ColumnParts) (s h : ℕ) (r : Row) → entry_row columns s h (entry s h r) ≡ top_row columns s h r
 one_row columns s h r =

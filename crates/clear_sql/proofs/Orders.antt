@@ -5,36 +5,36 @@ use Rattle.std.specs.List.Sorted.{IsPermutation, IsSortedBy, ties}
 use Rattle.std.proofs.lemmas.Bool.Decides.{nat_tests}
 use Rattle.std.proofs.lemmas.List.Sorted.{IsPermutation-refl, IsPermutation-cons, IsPermutation-middle, IsPermutation-trans}
 use Rattle.cell_merge.specs.Rows.{Row}
-use Rattle.cell_merge.specs.Entries.{ordered, placed}
+use Rattle.cell_merge.specs.Entries.{ordered, insertion}
 use Rattle.cell_merge.proofs.Lists.{each_weaker}
 use Rattle.clear_sql.specs.Clear.{is_better}
 use Rattle.clear_sql.specs.Meaning.{RowsRise, IsFalling, sorts_above}
 
 -- ---- any order
 
-permutation-placed : {A : Type 0} (before : A → A → Bool) (x : A) (ys : List A) → IsPermutation (x ∷ ys) (placed before x ys)
-unfolding placed
+permutation-placed : {A : Type 0} (before : A → A → Bool) (x : A) (ys : List A) → IsPermutation (x ∷ ys) (insertion before x ys)
+unfolding insertion
 permutation-placed before x [] = IsPermutation-refl (x ∷ [])
 permutation-placed before x (y ∷ ys) = step (before y x) (permutation-placed before x ys)
   where
-    step : (t : Bool) → IsPermutation (x ∷ ys) (placed before x ys) → IsPermutation (x ∷ y ∷ ys) (cond t (y ∷ placed before x ys) (x ∷ y ∷ ys))
+    step : (t : Bool) → IsPermutation (x ∷ ys) (insertion before x ys) → IsPermutation (x ∷ y ∷ ys) (cond t (y ∷ insertion before x ys) (x ∷ y ∷ ys))
     step true h =
-        IsPermutation-trans (x ∷ y ∷ ys) (y ∷ x ∷ ys) (y ∷ placed before x ys) (IsPermutation-middle (x ∷ []) y ys) (IsPermutation-cons y (x ∷ ys) (placed before x ys) h)
+        IsPermutation-trans (x ∷ y ∷ ys) (y ∷ x ∷ ys) (y ∷ insertion before x ys) (IsPermutation-middle (x ∷ []) y ys) (IsPermutation-cons y (x ∷ ys) (insertion before x ys) h)
     step false h = IsPermutation-refl (x ∷ y ∷ ys)
 
 pub permutation-ordered : {A : Type 0} (before : A → A → Bool) (xs : List A) → IsPermutation xs (ordered before xs)
 unfolding ordered
 permutation-ordered before [] = IsPermutation-refl []
 permutation-ordered before (x ∷ xs) =
-    IsPermutation-trans (x ∷ xs) (x ∷ ordered before xs) (placed before x (ordered before xs)) (IsPermutation-cons x xs (ordered before xs) (permutation-ordered before xs))
+    IsPermutation-trans (x ∷ xs) (x ∷ ordered before xs) (insertion before x (ordered before xs)) (IsPermutation-cons x xs (ordered before xs) (permutation-ordered before xs))
     (permutation-placed before x (ordered before xs))
 
-each-placed : {A : Type 0} (before : A → A → Bool) (P : A → Type 0) (x : A) (ys : List A) → P x → AllByRecursion P ys → AllByRecursion P (placed before x ys)
-unfolding placed
+each-placed : {A : Type 0} (before : A → A → Bool) (P : A → Type 0) (x : A) (ys : List A) → P x → AllByRecursion P ys → AllByRecursion P (insertion before x ys)
+unfolding insertion
 each-placed before P x [] p h = (p, tt)
 each-placed before P x (y ∷ ys) p h = step (before y x) (each-placed before P x ys p h.1)
   where
-    step : (t : Bool) → AllByRecursion P (placed before x ys) → AllByRecursion P (cond t (y ∷ placed before x ys) (x ∷ y ∷ ys))
+    step : (t : Bool) → AllByRecursion P (insertion before x ys) → AllByRecursion P (cond t (y ∷ insertion before x ys) (x ∷ y ∷ ys))
     step true r = (h.0, r)
     step false r = (p, h)
 
@@ -62,12 +62,12 @@ abbrev Falls : ℕ → List Row → Type 0
 Falls sort [] = Unit {0}
 Falls sort (x ∷ xs) = AllByRecursion (λ y. is_better sort y x ≡ false) xs × Falls sort xs
 
-falls-placed : (sort : ℕ) (x : Row) (ys : List Row) → Falls sort ys → Falls sort (placed (is_better sort) x ys)
-unfolding placed
+falls-placed : (sort : ℕ) (x : Row) (ys : List Row) → Falls sort ys → Falls sort (insertion (is_better sort) x ys)
+unfolding insertion
 falls-placed sort x [] h = (tt, tt)
 falls-placed sort x (y ∷ ys) h = step (is_better sort y x) refl (falls-placed sort x ys h.1)
   where
-    step : (t : Bool) → is_better sort y x ≡ t → Falls sort (placed (is_better sort) x ys) → Falls sort (cond t (y ∷ placed (is_better sort) x ys) (x ∷ y ∷ ys))
+    step : (t : Bool) → is_better sort y x ≡ t → Falls sort (insertion (is_better sort) x ys) → Falls sort (cond t (y ∷ insertion (is_better sort) x ys) (x ∷ y ∷ ys))
     step true e r = (each-placed (is_better sort) (λ z. is_better sort z y ≡ false) x ys (better-asym sort y x e) h.0, r)
     step false e r = ((e, each_weaker (λ z. is_better sort z y ≡ false) (λ z. is_better sort z x ≡ false) (λ z p. better-through sort z y x p e) ys h.0), h)
 
@@ -90,16 +90,16 @@ unfolding is_better
 apart_by_value sort c r y h b p q = grind (arith, nat_tests)
 
 stable-placed : (sort : ℕ) (c r : Row) (ys : List Row) → AllByRecursion (λ (y : Row). r.number < y.number) ys
-    → filter (ties (sorts_above sort) c) (placed (is_better sort) r ys) ≡ filter (ties (sorts_above sort) c) (r ∷ ys)
-unfolding placed
+    → filter (ties (sorts_above sort) c) (insertion (is_better sort) r ys) ≡ filter (ties (sorts_above sort) c) (r ∷ ys)
+unfolding insertion
 stable-placed sort c r [] h = refl
 stable-placed sort c r (y ∷ ys) h = step (is_better sort y r) refl (p y) refl (p r) refl (stable-placed sort c r ys h.1)
   where
     p : Row → Bool
     p = ties (sorts_above sort) c
 
-    step : (t : Bool) → is_better sort y r ≡ t → (u : Bool) → p y ≡ u → (v : Bool) → p r ≡ v → filter p (placed (is_better sort) r ys) ≡ cond (p r) (r ∷ filter p ys) (filter p ys)
-        → filter p (cond t (y ∷ placed (is_better sort) r ys) (r ∷ y ∷ ys)) ≡ cond (p r) (r ∷ cond (p y) (y ∷ filter p ys) (filter p ys)) (cond (p y) (y ∷ filter p ys) (filter p ys))
+    step : (t : Bool) → is_better sort y r ≡ t → (u : Bool) → p y ≡ u → (v : Bool) → p r ≡ v → filter p (insertion (is_better sort) r ys) ≡ cond (p r) (r ∷ filter p ys) (filter p ys)
+        → filter p (cond t (y ∷ insertion (is_better sort) r ys) (r ∷ y ∷ ys)) ≡ cond (p r) (r ∷ cond (p y) (y ∷ filter p ys) (filter p ys)) (cond (p y) (y ∷ filter p ys) (filter p ys))
     step true b true u true v e = absurd (apart_by_value sort c r y h.0 b u v)
     step true b true u false v e = rw (u, v) (ap (λ l. y ∷ l) (rw v at e))
     step true b false u true v e = rw (u, v) (rw v at e)

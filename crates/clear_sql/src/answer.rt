@@ -41,14 +41,6 @@ impl TopRows {
     {
         self.rows.as_slice()
     }
-
-    /// The rows, taken out.
-    pub fn into_vec(self) -> Vec<TopRow>
-        ensures { result.items ≡ self }
-    {
-        let TopRows { rows } = self;
-        rows
-    }
 }
 
 /// What one item of a query gives.
@@ -97,14 +89,6 @@ impl Outcomes {
     {
         self.outcomes.as_slice()
     }
-
-    /// The outcomes, taken out.
-    pub fn into_vec(self) -> Vec<Outcome>
-        ensures { result.items ≡ self }
-    {
-        let Outcomes { outcomes } = self;
-        outcomes
-    }
 }
 
 /// The outcomes over the rows of one label, or over all rows where no column groups them.
@@ -142,14 +126,6 @@ impl Groups {
         ensures { result.now ≡ self.now }
     {
         self.groups.as_slice()
-    }
-
-    /// The groups, taken out.
-    pub fn into_vec(self) -> Vec<Group>
-        ensures { result.items ≡ self }
-    {
-        let Groups { groups } = self;
-        groups
     }
 }
 

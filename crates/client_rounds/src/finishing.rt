@@ -3,7 +3,7 @@ ghost use Rattle.std.specs.Prelude.{◌≡◌, All, length, IfOk, IsErrOf};
 ghost use Rattle.clear_sql.specs.AnswerText.{GroupFits};
 ghost use Rattle.combiner.specs.Combining.{combined};
 ghost use Rattle.combiner.specs.Finals.{last_words as words_of_last, final_of};
-ghost use Rattle.combiner.specs.Steps.{Gives};
+ghost use Rattle.spl_words.specs.Results.{Gives};
 ghost use Rattle.client_rounds.specs.declared.faults.AskFault.TheVariants as ask;
 ghost use Rattle.client_rounds.specs.Finishing.{IsJudged, answered, combine_fault, final_fault, finished, or_ask, result_of};
 

@@ -7,7 +7,7 @@ ghost use Rattle.query_reader.specs.Params.{AreParamsFor};
 ghost use Rattle.judged_queries.specs.Queries.{checked_in};
 ghost use Rattle.judged_queries.specs.Codes.{codes_in};
 ghost use Rattle.key_frames.specs.NoteReading.{note_fields_at};
-ghost use Rattle.combiner.specs.Steps.{Gives};
+ghost use Rattle.spl_words.specs.Results.{Gives};
 ghost use Rattle.client_rounds.specs.declared.faults.AskFault.TheVariants as ask;
 ghost use Rattle.client_rounds.specs.Faults.{query_fault, param_fault};
 ghost use Rattle.client_rounds.specs.Finishing.{IsJudged, answer_in, frame_fault as fault_of_frame, if_built, note_in, or_ask};

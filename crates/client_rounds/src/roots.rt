@@ -50,12 +50,4 @@ impl Roots {
     {
         self.items.as_slice()
     }
-
-    /// The items as a vector.
-    pub fn into_vec(self) -> Vec<(u128, u128)>
-        ensures { result.items ≡ self }
-    {
-        let Roots { items } = self;
-        items
-    }
 }

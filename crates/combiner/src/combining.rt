@@ -3,7 +3,7 @@ ghost use Rattle.std.specs.Prelude.{◌≡◌, ◌^◌, ◌-◌, length, min, Er
 ghost use Rattle.spl_words.specs.Results.{Is};
 ghost use Rattle.combiner.specs.declared.combining.CombineFault.TheVariants as fault;
 ghost use Rattle.combiner.specs.Combining.{by_provider as in_order, key_of, agree as agreed, answers as answers_to, same_tables, noted_table, added, combined};
-ghost use Rattle.combiner.specs.Steps.{Gives};
+ghost use Rattle.spl_words.specs.Results.{Gives};
 
 use answer_frames::AnswerFrame;
 use key_frames::Note;

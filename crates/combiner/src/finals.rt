@@ -9,7 +9,7 @@ ghost use Rattle.private_plan.specs.declared.plans.PlanKind.TheVariants as kind;
 ghost use Rattle.private_plan.specs.Plans.{is_sum, plan_of};
 ghost use Rattle.combiner.specs.declared.finals.FinalFault.TheVariants as fault;
 ghost use Rattle.combiner.specs.Finals.{last_words as words_of_last, is_good as good_test, good_words, merged_alone, final_of};
-ghost use Rattle.combiner.specs.Steps.{Gives};
+ghost use Rattle.spl_words.specs.Results.{Gives};
 
 use cell_merge::{CellSpec, block_words, empty_cell, merge_into};
 use clear_sql::{Answer, answer_of_cell};

@@ -15,11 +15,11 @@ use Rattle.sha2.proofs.Facts256.{length-sha256}
 use Rattle.spl_words.specs.declared.provider.Provider.{Provider}
 use Rattle.spl_words.specs.declared.provider.Provider.TheVariants.{Zero, One}
 use Rattle.spl_words.specs.declared.fault.FrameFault.{FrameFault}
-use Rattle.spl_words.specs.declared.fault.FrameFault.TheVariants.{Short, BadMagic, BadVersion, BadField, TooLarge, Trailing, BadDigest}
+use Rattle.spl_words.specs.declared.fault.FrameFault.TheVariants.{Short, BadMagic, BadVersion, BadField, TooLarge, Trailing, BadDigest, OutOfMemory}
 use Rattle.spl_words.specs.Cursor.{Spot}
 use Rattle.frame_fields.specs.Typed.{IsBytes}
-use Rattle.spl_words.specs.Results.{◌>>=◌}
-use Rattle.frame_fields.specs.Reading.{At, Gives, provider_byte, take_at, number_at, magic_at, version_at, none_bad, some_value, text_at, decoded_at, within_at, provider_of, provider_at, many_at, digest_at, frame_at, sealed}
+use Rattle.spl_words.specs.Results.{◌>>=◌, Gives}
+use Rattle.frame_fields.specs.Reading.{At, provider_byte, take_at, number_at, magic_at, version_at, none_bad, some_value, text_at, decoded_at, within_at, provider_of, provider_at, many_at, digest_at, frame_at, sealed}
 
 -- the value of a step that did not fail
 pub bind_ok : {A B : Type 0} (r : Result A FrameFault) (f : A → Result B FrameFault) (y : B) → (r >>= f) ≡ Ok y → (x : A) × (r ≡ Ok x) × (f x ≡ Ok y)
@@ -485,15 +485,15 @@ frame_law fields fits spell law small bytes x are =
 
 -- What a reader of whole frames answers: a value that fits, and its spelling.
 pub reader_found : {A : Type 0} (fields : Spot → At A) (fits : A → Type 0) (spell : A → List ℕ) → IsField fields Any fits spell
-    → (bytes : List ℕ) (r : Result A FrameFault) → IsBytes bytes → Gives (λ x. x) r (frame_at fields bytes) → IfOk r (λ x. fits x × (bytes ≡ sealed (spell x)))
+    → (bytes : List ℕ) (r : Result A FrameFault) → IsBytes bytes → Gives OutOfMemory (λ x. x) r (frame_at fields bytes) → IfOk r (λ x. fits x × (bytes ≡ sealed (spell x)))
 reader_found fields fits spell law bytes (Ok x) are given = frame_found fields fits spell law bytes x are given
 reader_found fields fits spell law bytes (Err e) are given = tt
 
 pub reader_only : {A : Type 0} (fields : Spot → At A) (fits : A → Type 0) (spell : A → List ℕ) → IsField fields Any fits spell
-    → (bytes : List ℕ) (r : Result A FrameFault) → Gives (λ x. x) r (frame_at fields bytes)
-    → (x : A) → fits x → length (sealed (spell x)) ≤ 4194304 → bytes ≡ sealed (spell x) → Gives (λ x. x) r (Ok x)
+    → (bytes : List ℕ) (r : Result A FrameFault) → Gives OutOfMemory (λ x. x) r (frame_at fields bytes)
+    → (x : A) → fits x → length (sealed (spell x)) ≤ 4194304 → bytes ≡ sealed (spell x) → Gives OutOfMemory (λ x. x) r (Ok x)
 reader_only {A} fields fits spell law bytes r given x f small e =
-    subst (λ (y : Result A FrameFault). Gives (λ z. z) r y) (frame_only fields fits spell law bytes x f (omega (arith, small, ap length e)) e) given
+    subst (λ (y : Result A FrameFault). Gives OutOfMemory (λ z. z) r y) (frame_only fields fits spell law bytes x f (omega (arith, small, ap length e)) e) given
 
 -- the length of a list of parts
 pub length_of_parts : {A : Type 0} (spell : A → List ℕ) (k : ℕ) → ((x : A) → length (spell x) ≡ k) → (xs : List A) → length (flat_map spell xs) ≡ length xs * k

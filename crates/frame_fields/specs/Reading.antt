@@ -20,20 +20,10 @@ abbrev pub Reads : {X Y : Type 0} → (X → Y) → Result X FrameFault → Spot
 Reads view (Ok x) now step = step ≡ Ok (view x, now)
 Reads view (Err e) now step = (e ≡ OutOfMemory) ⊎ (step ≡ Err e)
 
--- what a reader of whole frames returned is what reading gives, unless memory was short
-abbrev pub Gives : {X Y : Type 0} → (X → Y) → Result X FrameFault → Result Y FrameFault → Type 0
-Gives view (Ok x) step = step ≡ Ok (view x)
-Gives view (Err e) step = (e ≡ OutOfMemory) ⊎ (step ≡ Err e)
-
 -- what a reader that takes no memory returned and left is what reading gives; after a fault the spot of the cursor says nothing
 abbrev pub ReadsExactly : {X Y : Type 0} → (X → Y) → Result X FrameFault → Spot → At Y → Type 0
 ReadsExactly view (Ok x) now step = step ≡ Ok (view x, now)
 ReadsExactly view (Err e) now step = step ≡ Err e
-
--- what the last reader of a frame, which takes no memory, returned is what reading gives
-abbrev pub GivesExactly : {X Y : Type 0} → (X → Y) → Result X FrameFault → Result Y FrameFault → Type 0
-GivesExactly view (Ok x) step = step ≡ Ok (view x)
-GivesExactly view (Err e) step = step ≡ Err e
 
 -- n bytes
 unfoldable pub take_at : ℕ → Spot → At (List ℕ)

@@ -12,5 +12,5 @@ pub use reading::{
 };
 pub use typed::{see_bytes, see_number, see_slice, see_words};
 pub use writing::{
-    provider_byte_of, put, put_bytes, put_provider, put8, put16, put32, put64, put128,
+    provider_byte_of, put, put_bytes, put_provider, put8, put16, put64, put128,
 };

@@ -4,7 +4,8 @@ ghost use Rattle.std.specs.Prelude.{◌≡◌, ◌⊎◌, ◌<◌, ◌≤◌, �
 ghost use Rattle.std.specs.Int.{w8, w16, w32, w64, w128};
 ghost use Rattle.sha2.specs.Sha256.{sha256};
 ghost use Rattle.spl_words.specs.declared.fault.FrameFault.TheVariants.{TooLarge};
-ghost use Rattle.frame_fields.specs.Reading.{ReadsExactly, GivesExactly, take_at, number_at, magic_at, version_at, within_at, provider_at, digest_at};
+ghost use Rattle.spl_words.specs.Results.{Is};
+ghost use Rattle.frame_fields.specs.Reading.{ReadsExactly, take_at, number_at, magic_at, version_at, within_at, provider_at, digest_at};
 
 use sha2::{Digest, Sha256};
 use spl_words::{Fields, FrameFault, Provider};
@@ -187,7 +188,7 @@ pub fn digest_of(bytes: &[u8]) -> [u8; 32]
 /// The digest of all bytes before it, and no byte behind it.
 #[tactic(auto, unfolding(crate::specs::Reading::digest_at))]
 pub fn digest(fields: &mut Fields) -> Result<(), FrameFault>
-    ensures { GivesExactly (λ x. x) result (digest_at fields.old) }
+    ensures { Is (λ x. x) result (digest_at fields.old) }
 {
     let computed = digest_of(fields.front());
     let stated = take32(fields)?;

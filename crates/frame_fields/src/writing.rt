@@ -3,7 +3,7 @@
 ghost use Rattle.std.specs.Prelude.{◌≡◌, ◌++◌, ◌+◌, ◌≤◌, [], ◌∷◌, length, take, drop, OnOk};
 ghost use Rattle.frame_fields.specs.Pieces.{Wrote};
 ghost use Rattle.frame_fields.specs.Reading.{provider_byte};
-ghost use Rattle.std.specs.Int.{w8, w16, w32, w64, w128, to_be_bytes};
+ghost use Rattle.std.specs.Int.{w8, w16, w64, w128, to_be_bytes};
 
 use spl_words::Provider;
 use std::alloc::AllocError;
@@ -33,14 +33,6 @@ pub fn put8(out: &mut Vec<u8>, number: u8) -> Result<(), AllocError>
 /// Adds a number as two bytes, the highest first.
 pub fn put16(out: &mut Vec<u8>, number: u16) -> Result<(), AllocError>
     ensures { OnOk result (Wrote out.old.items (to_be_bytes w16 number) out.new.items) }
-{
-    out.extend_from_slice(&number.to_be_bytes())?;
-    Ok(())
-}
-
-/// Adds a number as four bytes, the highest first.
-pub fn put32(out: &mut Vec<u8>, number: u32) -> Result<(), AllocError>
-    ensures { OnOk result (Wrote out.old.items (to_be_bytes w32 number) out.new.items) }
 {
     out.extend_from_slice(&number.to_be_bytes())?;
     Ok(())

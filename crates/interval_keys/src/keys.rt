@@ -77,14 +77,6 @@ impl ThresholdLevels {
     {
         self.items.as_slice()
     }
-
-    /// The levels as a vector.
-    pub fn into_vec(self) -> Vec<ThresholdLevel>
-        ensures { result.items ≡ self }
-    {
-        let ThresholdLevels { items } = self;
-        items
-    }
 }
 
 impl Clone for ThresholdLevels {

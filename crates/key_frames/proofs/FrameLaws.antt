@@ -5,10 +5,12 @@ use Rattle.std.specs.List.{flat_map, AllByRecursion}
 use Rattle.std.specs.Int.{w8, w16, w128, to_be_bytes}
 use Rattle.std.proofs.lemmas.List.{append-nil, length-append}
 use Rattle.spl_words.specs.declared.fault.FrameFault.{FrameFault}
+use Rattle.spl_words.specs.Results.{Gives}
+use Rattle.spl_words.specs.declared.fault.FrameFault.TheVariants.{OutOfMemory}
 use Rattle.spl_values.specs.Shapes.{IsShape}
 use Rattle.spl_values.specs.ShapeTexts.{shape_text}
 use Rattle.frame_fields.specs.Typed.{IsBytes}
-use Rattle.frame_fields.specs.Reading.{Gives, frame_at, sealed, number_at, magic_at, version_at, within_at, provider_at, many_at, text_at, decoded_at}
+use Rattle.frame_fields.specs.Reading.{frame_at, sealed, number_at, magic_at, version_at, within_at, provider_at, many_at, text_at, decoded_at}
 use Rattle.frame_fields.proofs.Laws.{IsField, Any, and_then, done_field, restate_field, number_field, magic_field, version_field, within_field, provider_field, text_field, decoded_field, many_field, length_of_parts_le, length-sealed, frame_law, frame_only, reader_found, reader_only, no_prefix, wide8, wide16}
 use Rattle.frame_fields.proofs.Wide.{wide128}
 use Rattle.key_frames.specs.declared.frame.KeyFrame.{KeyFrame}
@@ -91,13 +93,13 @@ frame_is_read bytes f are =
 pub frame_read : (bytes : List ℕ) (f : KeyFrame) → KeyFrameOf bytes f → frame_at frame_fields_at bytes ≡ Ok f
 frame_read bytes f of = frame_only frame_fields_at FrameFits frame_body fields_field bytes f (of.allowed, of.typed) (omega (arith, frame_short f (of.allowed, of.typed), ap length of.spelled)) of.spelled
 
-pub is_found : (bytes : List ℕ) (r : Result KeyFrame FrameFault) → IsBytes bytes → Gives (λ x. x) r (frame_at frame_fields_at bytes) → IfOk r (λ f. KeyFrameOf bytes f)
+pub is_found : (bytes : List ℕ) (r : Result KeyFrame FrameFault) → IsBytes bytes → Gives OutOfMemory (λ x. x) r (frame_at frame_fields_at bytes) → IfOk r (λ f. KeyFrameOf bytes f)
 is_found bytes (Ok f) are given =
     let h = reader_found frame_fields_at FrameFits frame_body fields_field bytes (Ok f) are given in
     record { allowed = h.0.0; typed = h.0.1; spelled = h.1 }
 is_found bytes (Err e) are given = tt
 
-pub is_only : (bytes : List ℕ) (r : Result KeyFrame FrameFault) → Gives (λ x. x) r (frame_at frame_fields_at bytes) → (f : KeyFrame) → KeyFrameOf bytes f → Gives (λ x. x) r (Ok f)
+pub is_only : (bytes : List ℕ) (r : Result KeyFrame FrameFault) → Gives OutOfMemory (λ x. x) r (frame_at frame_fields_at bytes) → (f : KeyFrame) → KeyFrameOf bytes f → Gives OutOfMemory (λ x. x) r (Ok f)
 is_only bytes r given f of = reader_only frame_fields_at FrameFits frame_body fields_field bytes r given f (of.allowed, of.typed) (frame_short f (of.allowed, of.typed)) of.spelled
 
 pub none_is_prefix : (b1 b2 more : List ℕ) (f g : KeyFrame) → KeyFrameOf b1 f → KeyFrameOf b2 g → b1 ++ more ≡ b2 → (f ≡ g) × (more ≡ [])

@@ -6,11 +6,12 @@ use Rattle.std.specs.Int.{w8, w16, w128, to_be_bytes}
 use Rattle.std.proofs.lemmas.List.{append-nil, length-append}
 use Rattle.std.proofs.lemmas.Slice.Eq.{bytes_eq-Decides}
 use Rattle.spl_words.specs.declared.fault.FrameFault.{FrameFault}
-use Rattle.spl_words.specs.declared.fault.FrameFault.TheVariants.{BadField}
+use Rattle.spl_words.specs.declared.fault.FrameFault.TheVariants.{BadField, OutOfMemory}
+use Rattle.spl_words.specs.Results.{Gives}
 use Rattle.spl_values.specs.Shapes.{IsShape}
 use Rattle.spl_values.specs.ShapeTexts.{shape_text}
 use Rattle.frame_fields.specs.Typed.{IsBytes}
-use Rattle.frame_fields.specs.Reading.{Gives, frame_at, sealed, take_at, number_at, magic_at, version_at, within_at, many_at, text_at, decoded_at}
+use Rattle.frame_fields.specs.Reading.{frame_at, sealed, take_at, number_at, magic_at, version_at, within_at, many_at, text_at, decoded_at}
 use Rattle.frame_fields.proofs.Laws.{IsField, Any, and_then, done_field, restate_field, test_field, chunk_field, number_field, magic_field, version_field, within_field, text_field, decoded_field, many_field, length_of_parts, length-sealed, frame_law, frame_only, reader_found, reader_only, no_prefix, wide8, wide16}
 use Rattle.frame_fields.proofs.Wide.{wide128}
 use Rattle.key_frames.specs.declared.note.Note.{Note}
@@ -103,13 +104,13 @@ note_is_read bytes n are =
 pub note_read : (bytes : List ℕ) (n : Note) → NoteOf bytes n → frame_at note_fields_at bytes ≡ Ok n
 note_read bytes n of = frame_only note_fields_at NoteFits note_body note_field bytes n (of.allowed, of.typed) (omega (arith, length-note n (of.allowed, of.typed), ap length of.spelled)) of.spelled
 
-pub is_found : (bytes : List ℕ) (r : Result Note FrameFault) → IsBytes bytes → Gives (λ x. x) r (frame_at note_fields_at bytes) → IfOk r (λ f. NoteOf bytes f)
+pub is_found : (bytes : List ℕ) (r : Result Note FrameFault) → IsBytes bytes → Gives OutOfMemory (λ x. x) r (frame_at note_fields_at bytes) → IfOk r (λ f. NoteOf bytes f)
 is_found bytes (Ok f) are given =
     let h = reader_found note_fields_at NoteFits note_body note_field bytes (Ok f) are given in
     record { allowed = h.0.0; typed = h.0.1; spelled = h.1 }
 is_found bytes (Err e) are given = tt
 
-pub is_only : (bytes : List ℕ) (r : Result Note FrameFault) → Gives (λ x. x) r (frame_at note_fields_at bytes) → (f : Note) → NoteOf bytes f → Gives (λ x. x) r (Ok f)
+pub is_only : (bytes : List ℕ) (r : Result Note FrameFault) → Gives OutOfMemory (λ x. x) r (frame_at note_fields_at bytes) → (f : Note) → NoteOf bytes f → Gives OutOfMemory (λ x. x) r (Ok f)
 is_only bytes r given f of = reader_only note_fields_at NoteFits note_body note_field bytes r given f (of.allowed, of.typed) (length-note f (of.allowed, of.typed)) of.spelled
 
 pub none_is_prefix : (b1 b2 more : List ℕ) (f g : Note) → NoteOf b1 f → NoteOf b2 g → b1 ++ more ≡ b2 → (f ≡ g) × (more ≡ [])

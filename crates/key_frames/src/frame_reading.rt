@@ -1,6 +1,8 @@
 //! Reading a key frame.
 ghost use Rattle.std.specs.Prelude.{◌≡◌, IfOk, Ok};
-ghost use Rattle.frame_fields.specs.Reading.{Reads, Gives, frame_at};
+ghost use Rattle.spl_words.specs.Results.{Gives};
+ghost use Rattle.spl_words.specs.declared.fault.FrameFault.TheVariants.{OutOfMemory};
+ghost use Rattle.frame_fields.specs.Reading.{Reads, frame_at};
 ghost use Rattle.key_frames.specs.declared.frame.KeyFrame.{KeyFrame as Frame};
 ghost use Rattle.key_frames.specs.FrameReading.{frame_fields_at};
 ghost use Rattle.key_frames.specs.Frames.{KeyFrameOf};
@@ -41,7 +43,7 @@ fn fields_of(alloc: Global, fields: &mut Fields) -> Result<KeyFrame, FrameFault>
 /// The fields and the digest, and nothing behind them.
 #[tactic(auto, unfolding(frame_fields::specs::Reading::frame_at))]
 fn frame_of(alloc: Global, bytes: &[u8]) -> Result<KeyFrame, FrameFault>
-    ensures { Gives (λ f. f) result (frame_at frame_fields_at bytes.now) }
+    ensures { Gives OutOfMemory (λ f. f) result (frame_at frame_fields_at bytes.now) }
 {
     let mut fields = start(bytes)?;
     let frame = fields_of(alloc, &mut fields)?;
@@ -53,8 +55,8 @@ fn frame_of(alloc: Global, bytes: &[u8]) -> Result<KeyFrame, FrameFault>
 /// those.
 pub fn read_key_frame(alloc: Global, bytes: &[u8]) -> Result<KeyFrame, FrameFault>
     ensures found { IfOk result (λ f. KeyFrameOf bytes.now f) }
-    ensures only { (f : Frame) → KeyFrameOf bytes.now f → Gives (λ x. x) result (Ok f) }
-    ensures fault { Gives (λ f. f) result (frame_at frame_fields_at bytes.now) }
+    ensures only { (f : Frame) → KeyFrameOf bytes.now f → Gives OutOfMemory (λ x. x) result (Ok f) }
+    ensures fault { Gives OutOfMemory (λ f. f) result (frame_at frame_fields_at bytes.now) }
 {
     frame_of(alloc, bytes)
 }

@@ -62,12 +62,4 @@ impl Keys {
     {
         self.items.as_slice()
     }
-
-    /// The keys as a vector.
-    pub fn into_vec(self) -> Vec<Key>
-        ensures { result.items ≡ self }
-    {
-        let Keys { items } = self;
-        items
-    }
 }

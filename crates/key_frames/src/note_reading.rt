@@ -1,7 +1,9 @@
 //! Reading a note.
 ghost use Rattle.std.specs.Prelude.{◌≡◌, IfOk, Ok};
 ghost use Rattle.std.specs.Int.{w128};
-ghost use Rattle.frame_fields.specs.Reading.{Reads, ReadsExactly, Gives, many_at, number_at, frame_at};
+ghost use Rattle.spl_words.specs.Results.{Gives};
+ghost use Rattle.spl_words.specs.declared.fault.FrameFault.TheVariants.{OutOfMemory};
+ghost use Rattle.frame_fields.specs.Reading.{Reads, ReadsExactly, many_at, number_at, frame_at};
 ghost use Rattle.key_frames.specs.declared.note.Note.{Note as Noted};
 ghost use Rattle.key_frames.specs.NoteReading.{table_at, note_fields_at};
 ghost use Rattle.key_frames.specs.Notes.{NoteOf};
@@ -71,7 +73,7 @@ fn fields_of(alloc: Global, fields: &mut Fields) -> Result<Note, FrameFault>
 /// The fields and the digest, and nothing behind them.
 #[tactic(auto, unfolding(frame_fields::specs::Reading::frame_at))]
 fn note_of(alloc: Global, bytes: &[u8]) -> Result<Note, FrameFault>
-    ensures { Gives (λ n. n) result (frame_at note_fields_at bytes.now) }
+    ensures { Gives OutOfMemory (λ n. n) result (frame_at note_fields_at bytes.now) }
 {
     let mut fields = start(bytes)?;
     let note = fields_of(alloc, &mut fields)?;
@@ -82,8 +84,8 @@ fn note_of(alloc: Global, bytes: &[u8]) -> Result<Note, FrameFault>
 /// The note that the bytes spell, or the first fault from the front: bytes that spell a note are read, and only those.
 pub fn read_note(alloc: Global, bytes: &[u8]) -> Result<Note, FrameFault>
     ensures found { IfOk result (λ n. NoteOf bytes.now n) }
-    ensures only { (n : Noted) → NoteOf bytes.now n → Gives (λ x. x) result (Ok n) }
-    ensures fault { Gives (λ n. n) result (frame_at note_fields_at bytes.now) }
+    ensures only { (n : Noted) → NoteOf bytes.now n → Gives OutOfMemory (λ x. x) result (Ok n) }
+    ensures fault { Gives OutOfMemory (λ n. n) result (frame_at note_fields_at bytes.now) }
 {
     note_of(alloc, bytes)
 }

@@ -68,14 +68,6 @@ impl Corrections {
     {
         self.items.as_slice()
     }
-
-    /// The corrections as a vector.
-    pub fn into_vec(self) -> Vec<Correction>
-        ensures { result.items ≡ self }
-    {
-        let Corrections { items } = self;
-        items
-    }
 }
 
 impl Clone for Corrections {

@@ -54,14 +54,6 @@ impl Specs {
     {
         self.specs.as_slice()
     }
-
-    /// The trees, taken out.
-    pub fn into_vec(self) -> Vec<KeySpec>
-        ensures { result.items ≡ self }
-    {
-        let Specs { specs } = self;
-        specs
-    }
 }
 
 /// Which trees a query asks for in each of its rounds, and how many words come back. It is public:

@@ -46,14 +46,6 @@ impl Secrets {
     {
         self.secrets.as_slice()
     }
-
-    /// The secrets, taken out.
-    pub fn into_vec(self) -> Vec<TreeSecret>
-        ensures { result.items ≡ self }
-    {
-        let Secrets { secrets } = self;
-        secrets
-    }
 }
 
 /// Why a round has no secrets.

@@ -1,13 +1,15 @@
 //! The answer to a key frame.
 ghost use Rattle.std.specs.Prelude.{◌≡◌, ◌+◌, ◌*◌, ◌^◌, ◌<◌, ◌≤◌, All, length, replicate, vec_len, IfOk, IfErr};
+ghost use Rattle.spl_words.specs.Results.{Gives};
 ghost use Rattle.answer_frames.specs.Spelling.{Allowed, spelling};
 ghost use Rattle.key_frames.specs.Keys.{depth};
 ghost use Rattle.session_model.specs.Answers.{answer_bytes};
 ghost use Rattle.session_model.specs.KeyLists.{key_shares};
 ghost use Rattle.provider_core.specs.Answering.{answered};
 ghost use Rattle.provider_core.specs.Asking.{IsAsked};
-ghost use Rattle.provider_core.specs.Faults.{Gives, OwnsMemory};
+ghost use Rattle.provider_core.specs.Faults.{OwnsMemory};
 ghost use Rattle.provider_core.specs.Folds.{fold_words};
+ghost use Rattle.provider_core.specs.declared.fault.ProviderFault.TheVariants.{OutOfMemory};
 
 use crate::asked::{Asked, judge};
 use crate::fault::ProviderFault;
@@ -125,7 +127,7 @@ pub fn answer<T: Threads + Sync, E: Expander + Sync, G: Gate + Sync>(
 ) -> Result<Vec<u8>, ProviderFault>
     requires { (1 ≤ workers) × (workers ≤ 64) }
     // The frame's answer, or the first refusal, unless memory runs out.
-    ensures gives { Gives (λ v. v.items) result (answered (E.meaning expander.now) provider frame.now table.now) }
+    ensures gives { Gives OutOfMemory (λ v. v.items) result (answered (E.meaning expander.now) provider frame.now table.now) }
     // No fault in a refusal is want of memory.
     ensures memory { IfErr result OwnsMemory }
 {

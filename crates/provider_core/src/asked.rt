@@ -1,6 +1,7 @@
 //! What a key frame asks of a provider.
 ghost use Rattle.std.specs.Prelude.{◌≡◌, ◌≤◌, None, Ok, IfOk, IfErr, length};
 ghost use Rattle.std.specs.List.{position};
+ghost use Rattle.spl_words.specs.Results.{Gives};
 ghost use Rattle.frame_fields.specs.Reading.{frame_at};
 ghost use Rattle.key_frames.specs.FrameReading.{frame_fields_at};
 ghost use Rattle.key_frames.specs.Frames.{FrameAllowed, KeyFrameOf};
@@ -9,7 +10,8 @@ ghost use Rattle.judged_queries.specs.Queries.{checked_in};
 ghost use Rattle.query_reader.specs.Accepted.{IsCheckedFor};
 ghost use Rattle.provider_core.specs.Asking.{asked_in, frame_in, if_own, keys_placed, or_no_frame, or_query_fault, query_in, IsAsked};
 ghost use Rattle.provider_core.specs.Bounds.{sums_bounded};
-ghost use Rattle.provider_core.specs.Faults.{Gives, OwnsMemory};
+ghost use Rattle.provider_core.specs.Faults.{OwnsMemory};
+ghost use Rattle.provider_core.specs.declared.fault.ProviderFault.TheVariants.{OutOfMemory};
 
 use crate::bounds::check_sums;
 use crate::fault::ProviderFault;
@@ -33,7 +35,7 @@ pub struct Asked {
 
 /// The frame that bytes are.
 fn frame_of(alloc: Global, bytes: &[u8]) -> Result<KeyFrame, ProviderFault>
-    ensures gives { Gives (λ f. f) result (or_no_frame (frame_at frame_fields_at bytes.now)) }
+    ensures gives { Gives OutOfMemory (λ f. f) result (or_no_frame (frame_at frame_fields_at bytes.now)) }
     ensures known { IfOk result (λ f. KeyFrameOf bytes.now f) }
     ensures memory { IfErr result OwnsMemory }
 {
@@ -59,7 +61,7 @@ fn check_provider(provider: Provider, named: Provider) -> Result<(), ProviderFau
 /// The accepted query that a frame's text is.
 fn query_of(alloc: Global, schema: &Schema, text: &[u8]) -> Result<Checked, ProviderFault>
     requires { position is_bad text.now ≡ None }
-    ensures gives { Gives (λ c. c) result (or_query_fault (checked_in schema.now text.now)) }
+    ensures gives { Gives OutOfMemory (λ c. c) result (or_query_fault (checked_in schema.now text.now)) }
     ensures known { IfOk result (λ checked. IsCheckedFor checked schema.now) }
     ensures memory { IfErr result OwnsMemory }
 {
@@ -80,7 +82,7 @@ fn check_keys(
 ) -> Result<(), ProviderFault>
     requires accepted { IsCheckedFor checked.now table.now.shape.schema }
     requires few { length frame.now.keys ≤ 512 }
-    ensures gives { Gives (λ x. x) result (keys_placed table.now frame.now checked.now) }
+    ensures gives { Gives OutOfMemory (λ x. x) result (keys_placed table.now frame.now checked.now) }
     ensures memory { IfErr result OwnsMemory }
 {
     let plan = plan(alloc, checked, table.shape())?;
@@ -106,7 +108,7 @@ fn own_frame(
     bytes: &[u8],
     table: &Table,
 ) -> Result<KeyFrame, ProviderFault>
-    ensures gives { Gives (λ f. f) result (frame_in provider bytes.now table.now) }
+    ensures gives { Gives OutOfMemory (λ f. f) result (frame_in provider bytes.now table.now) }
     ensures known { IfOk result (λ f. KeyFrameOf bytes.now f) }
     ensures memory { IfErr result OwnsMemory }
 {
@@ -120,7 +122,7 @@ fn own_frame(
 #[tactic(auto, unfolding(crate::specs::Asking::query_in))]
 fn own_query(alloc: Global, table: &Table, frame: &KeyFrame) -> Result<Checked, ProviderFault>
     requires allowed { FrameAllowed frame.now }
-    ensures gives { Gives (λ c. c) result (query_in table.now frame.now) }
+    ensures gives { Gives OutOfMemory (λ c. c) result (query_in table.now frame.now) }
     ensures known { IfOk result (λ c. IsCheckedFor c table.now.shape.schema) }
     ensures placed { IfOk result (λ c. keys_placed table.now frame.now c ≡ Ok tt) }
     ensures memory { IfErr result OwnsMemory }
@@ -139,7 +141,7 @@ pub fn judge(
     bytes: &[u8],
     table: &Table,
 ) -> Result<Asked, ProviderFault>
-    ensures gives { Gives (λ asked. asked) result (asked_in provider bytes.now table.now) }
+    ensures gives { Gives OutOfMemory (λ asked. asked) result (asked_in provider bytes.now table.now) }
     ensures asked { IfOk result (IsAsked bytes.now table.now) }
     ensures memory { IfErr result OwnsMemory }
 {

@@ -1,9 +1,11 @@
 //! Whether a frame's shape is the table's.
 ghost use Rattle.std.specs.Prelude.{◌≡◌, ◌≤◌, ◌↔◌, IsTrue, IfErr, Some, length, slice_get};
+ghost use Rattle.spl_words.specs.Results.{Gives};
 ghost use Rattle.spl_values.specs.ShapeTexts.{shape_text};
 ghost use Rattle.provider_core.specs.Asking.{if_same_text};
-ghost use Rattle.provider_core.specs.Faults.{Gives, OwnsMemory};
+ghost use Rattle.provider_core.specs.Faults.{OwnsMemory};
 ghost use Rattle.provider_core.specs.Lines.{first_line as line_of_difference};
+ghost use Rattle.provider_core.specs.declared.fault.ProviderFault.TheVariants.{OutOfMemory};
 
 use crate::fault::ProviderFault;
 use spl_values::{Shape, print_shape};
@@ -50,7 +52,7 @@ fn check_text(a: &[u8], b: &[u8]) -> Result<(), ProviderFault>
 
 /// Whether the canonical text of a frame's shape is that of the table's.
 pub fn check_shape(alloc: Global, shape: &Shape, own: &Shape) -> Result<(), ProviderFault>
-    ensures gives { Gives (λ x. x) result (if_same_text (shape_text shape.now) (shape_text own.now)) }
+    ensures gives { Gives OutOfMemory (λ x. x) result (if_same_text (shape_text shape.now) (shape_text own.now)) }
     ensures memory { IfErr result OwnsMemory }
 {
     // What a shape keeps is known once it is read.

@@ -35,14 +35,6 @@ impl Items {
     {
         self.items.as_slice()
     }
-
-    /// The items, taken out.
-    pub fn into_vec(self) -> Vec<Item>
-        ensures { result.items ≡ self }
-    {
-        let Items { items } = self;
-        items
-    }
 }
 
 impl Clone for Items {
@@ -83,14 +75,6 @@ impl Publics {
         ensures { result.now ≡ self.now }
     {
         self.publics.as_slice()
-    }
-
-    /// The conditions, taken out.
-    pub fn into_vec(self) -> Vec<Public>
-        ensures { result.items ≡ self }
-    {
-        let Publics { publics } = self;
-        publics
     }
 }
 
@@ -133,14 +117,6 @@ impl Atoms {
     {
         self.atoms.as_slice()
     }
-
-    /// The atoms, taken out.
-    pub fn into_vec(self) -> Vec<Atom>
-        ensures { result.items ≡ self }
-    {
-        let Atoms { atoms } = self;
-        atoms
-    }
 }
 
 impl Clone for Atoms {
@@ -181,14 +157,6 @@ impl Branches {
         ensures { result.now ≡ self.now }
     {
         self.branches.as_slice()
-    }
-
-    /// The branches, taken out.
-    pub fn into_vec(self) -> Vec<Atoms>
-        ensures { result.items ≡ self }
-    {
-        let Branches { branches } = self;
-        branches
     }
 }
 

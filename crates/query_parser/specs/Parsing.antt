@@ -29,9 +29,9 @@ Fails (NoReading o) read = read ≡ Err o
 Fails OutOfMemory read = Unit {0}
 
 -- What a function that takes no memory returned, and what it left, is what reading gives.
-abbrev pub Gives : {X : Type 0} → Result X Unread → Left → Result (X × Left) ℕ → Type 0
-Gives (Ok x) new read = read ≡ Ok (x, new)
-Gives (Err e) new read = read ≡ Err e.at
+abbrev pub GivesAt : {X : Type 0} → Result X Unread → Left → Result (X × Left) ℕ → Type 0
+GivesAt (Ok x) new read = read ≡ Ok (x, new)
+GivesAt (Err e) new read = read ≡ Err e.at
 
 -- The same for a function that returns nothing.
 abbrev pub Passes : Result (Unit {0}) Unread → Left → Result Left ℕ → Type 0

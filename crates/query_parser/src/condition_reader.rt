@@ -2,7 +2,7 @@
 ghost use Rattle.std.specs.Prelude.{◌≡◌, ◌<◌, ◌≤◌, length, OnOk, IfOk};
 ghost use Rattle.query_grammar.specs.Machine.{Found, TableEnd, Head};
 ghost use Rattle.query_parser.specs.Reading.{Moves};
-ghost use Rattle.query_parser.specs.Parsing.{Gives, Leaves, equal_at, mark_at, greatest_at, least_at, named_at, inner_at, part_at, behind_at, end_at, turn_at, Leads, Turns, ending_state, opening_at};
+ghost use Rattle.query_parser.specs.Parsing.{GivesAt, Leaves, equal_at, mark_at, greatest_at, least_at, named_at, inner_at, part_at, behind_at, end_at, turn_at, Leads, Turns, ending_state, opening_at};
 
 use crate::cursor::Cursor;
 use crate::fault::{ReadFault, Unread};
@@ -190,7 +190,7 @@ fn turn(alloc: Global, cursor: &mut Cursor, found: &mut Conditions) -> Result<En
 /// What stands behind the table's name: WHERE means that more follows.
 #[tactic(auto, unfolding(crate::specs::Parsing::opening_at))]
 fn opening(cursor: &mut Cursor) -> Result<Ending, Unread>
-    ensures read { Gives result cursor.new (opening_at cursor.old) }
+    ensures read { GivesAt result cursor.new (opening_at cursor.old) }
 {
     if cursor.is_over() {
         return Ok(Ending::Done);

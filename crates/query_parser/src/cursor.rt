@@ -1,5 +1,5 @@
 ghost use Rattle.std.specs.Prelude.{◌≡◌, ◌+◌, ◌≤◌, List, [], length, OnOk};
-ghost use Rattle.query_parser.specs.Parsing.{Gives, Passes, is_symbol as symbol_test, take_at, symbol_at, name_at, number_at, no_more, nothing_at};
+ghost use Rattle.query_parser.specs.Parsing.{GivesAt, Passes, is_symbol as symbol_test, take_at, symbol_at, name_at, number_at, no_more, nothing_at};
 
 use crate::fault::Unread;
 use query_grammar::{Placed, Symbol, Token};
@@ -34,7 +34,7 @@ impl Cursor {
     /// The next token; at the end a fault.
     #[tactic(auto, unfolding(crate::specs::Parsing::take_at))]
     pub(crate) fn take(&mut self) -> Result<Placed, Unread>
-        ensures read { Gives result self.new (take_at self.old) }
+        ensures read { GivesAt result self.new (take_at self.old) }
         ensures one { OnOk result (length self.new.tokens + 1 ≡ length self.old.tokens) }
         ensures left { length self.new.tokens ≤ length self.old.tokens }
     {
@@ -87,7 +87,7 @@ impl Cursor {
     /// Takes a name.
     #[tactic(auto, unfolding(crate::specs::Parsing::name_at))]
     pub(crate) fn name(&mut self) -> Result<Name, Unread>
-        ensures read { Gives result self.new (name_at self.old) }
+        ensures read { GivesAt result self.new (name_at self.old) }
         ensures left { length self.new.tokens ≤ length self.old.tokens }
     {
         let placed = self.take()?;
@@ -100,7 +100,7 @@ impl Cursor {
     /// Takes a number.
     #[tactic(auto, unfolding(crate::specs::Parsing::number_at))]
     pub(crate) fn number(&mut self) -> Result<u64, Unread>
-        ensures read { Gives result self.new (number_at self.old) }
+        ensures read { GivesAt result self.new (number_at self.old) }
         ensures left { length self.new.tokens ≤ length self.old.tokens }
     {
         let placed = self.take()?;

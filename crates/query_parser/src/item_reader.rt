@@ -2,7 +2,7 @@
 ghost use Rattle.std.specs.Prelude.{◌≡◌, ◌<◌, ◌≤◌, [], length, OnOk};
 ghost use Rattle.query_grammar.specs.Machine.{aggregate_item as item_aggregate, Items, Table};
 ghost use Rattle.query_parser.specs.Reading.{Moves};
-ghost use Rattle.query_parser.specs.Parsing.{Gives, count_at, aggregate_at, top_at, item_at, listed_at};
+ghost use Rattle.query_parser.specs.Parsing.{GivesAt, count_at, aggregate_at, top_at, item_at, listed_at};
 
 use crate::cursor::Cursor;
 use crate::fault::{ReadFault, Unread};
@@ -25,7 +25,7 @@ fn aggregate_item(aggregate: Aggregate, name: Name) -> Item
 /// What stands behind COUNT.
 #[tactic(auto, unfolding(crate::specs::Parsing::count_at))]
 fn count_item(cursor: &mut Cursor) -> Result<Item, Unread>
-    ensures read { Gives result cursor.new (count_at cursor.old) }
+    ensures read { GivesAt result cursor.new (count_at cursor.old) }
     ensures left { length cursor.new.tokens ≤ length cursor.old.tokens }
 {
     cursor.expect(Symbol::Open)?;
@@ -37,7 +37,7 @@ fn count_item(cursor: &mut Cursor) -> Result<Item, Unread>
 /// What stands behind a function of one column.
 #[tactic(auto, unfolding(crate::specs::Parsing::aggregate_at))]
 fn column_item(cursor: &mut Cursor, aggregate: Aggregate) -> Result<Item, Unread>
-    ensures read { Gives result cursor.new (aggregate_at aggregate cursor.old) }
+    ensures read { GivesAt result cursor.new (aggregate_at aggregate cursor.old) }
     ensures left { length cursor.new.tokens ≤ length cursor.old.tokens }
 {
     cursor.expect(Symbol::Open)?;
@@ -49,7 +49,7 @@ fn column_item(cursor: &mut Cursor, aggregate: Aggregate) -> Result<Item, Unread
 /// What stands behind TOPK.
 #[tactic(auto, unfolding(crate::specs::Parsing::top_at))]
 fn top_item(cursor: &mut Cursor) -> Result<Item, Unread>
-    ensures read { Gives result cursor.new (top_at cursor.old) }
+    ensures read { GivesAt result cursor.new (top_at cursor.old) }
     ensures left { length cursor.new.tokens ≤ length cursor.old.tokens }
 {
     cursor.expect(Symbol::Open)?;
@@ -65,7 +65,7 @@ fn top_item(cursor: &mut Cursor) -> Result<Item, Unread>
 /// An item of the list behind SELECT.
 #[tactic(auto, unfolding(crate::specs::Parsing::item_at))]
 fn item(cursor: &mut Cursor) -> Result<Item, Unread>
-    ensures read { Gives result cursor.new (item_at cursor.old) }
+    ensures read { GivesAt result cursor.new (item_at cursor.old) }
     ensures left { length cursor.new.tokens ≤ length cursor.old.tokens }
 {
     let placed = cursor.take()?;
@@ -80,7 +80,7 @@ fn item(cursor: &mut Cursor) -> Result<Item, Unread>
 /// An item, and whether a comma follows it and not FROM.
 #[tactic(auto, unfolding(crate::specs::Parsing::listed_at))]
 fn listed_item(cursor: &mut Cursor) -> Result<(Item, bool), Unread>
-    ensures read { Gives result cursor.new (listed_at cursor.old) }
+    ensures read { GivesAt result cursor.new (listed_at cursor.old) }
     ensures left { OnOk result (length cursor.new.tokens < length cursor.old.tokens) }
 {
     let item = item(cursor)?;

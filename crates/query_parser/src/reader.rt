@@ -6,7 +6,7 @@ ghost use Rattle.query_grammar.specs.Grammar.{Reads};
 ghost use Rattle.query_grammar.specs.Faults.{tokens_of};
 ghost use Rattle.query_tokens.specs.Tokens.{tokens_in};
 ghost use Rattle.query_parser.specs.Reading.{Ends, IsDrafted, IsStopOf, IsRead, IsFaultOf, drafted};
-ghost use Rattle.query_parser.specs.Parsing.{Gives, Passes, semicolon_at, group_at, closing_at};
+ghost use Rattle.query_parser.specs.Parsing.{GivesAt, Passes, semicolon_at, group_at, closing_at};
 
 use crate::condition_reader::condition;
 use crate::cursor::Cursor;
@@ -38,7 +38,7 @@ fn semicolon(cursor: &mut Cursor) -> Result<(), Unread>
 /// The name of a group, and the end.
 #[tactic(auto, unfolding(crate::specs::Parsing::group_at))]
 fn group(cursor: &mut Cursor) -> Result<Name, Unread>
-    ensures read { Gives result cursor.new (group_at cursor.old) }
+    ensures read { GivesAt result cursor.new (group_at cursor.old) }
 {
     cursor.expect(Symbol::By)?;
     let name = cursor.name()?;
@@ -50,7 +50,7 @@ fn group(cursor: &mut Cursor) -> Result<Name, Unread>
 /// The group and the end, behind all conditions.
 #[tactic(auto, unfolding(crate::specs::Parsing::closing_at))]
 fn closing(cursor: &mut Cursor, ending: Ending) -> Result<Option<Name>, Unread>
-    ensures read { Gives result cursor.new (closing_at ending cursor.old) }
+    ensures read { GivesAt result cursor.new (closing_at ending cursor.old) }
 {
     match ending {
         Ending::Group => Ok(Some(group(cursor)?)),

@@ -35,14 +35,6 @@ impl Bounds {
     {
         self.bounds.as_slice()
     }
-
-    /// The bounds, taken out.
-    pub fn into_vec(self) -> Vec<(u32, u128, u128)>
-        ensures { result.items ≡ self }
-    {
-        let Bounds { bounds } = self;
-        bounds
-    }
 }
 
 /// An accepted query, with what its columns are in the schema.

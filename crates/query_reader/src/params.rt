@@ -42,14 +42,6 @@ impl Params {
     {
         self.codes.as_slice()
     }
-
-    /// The codes, taken out.
-    pub fn into_vec(self) -> Vec<u128>
-        ensures { result.items ≡ self }
-    {
-        let Params { codes } = self;
-        codes
-    }
 }
 
 /// Why parameters are refused.

@@ -1,5 +1,5 @@
--- Sums of shares times cells, modulo 2 ^ 64.
-use Rattle.std.specs.Prelude.{◌≡◌, ℕ, ◌+◌, ◌*◌, ◌%◌, ◌^◌, ◌<◌, zero, suc, List, length, slice_index}
+-- The sums of shares times cells, key by key.
+use Rattle.std.specs.Prelude.{◌≡◌, ℕ, ◌+◌, ◌*◌, ◌<◌, zero, suc, List, length, slice_index}
 use Rattle.spl_words.specs.Words.{plus}
 
 -- f 0 + f 1 + .. + f (n - 1)
@@ -11,14 +11,6 @@ sum_below f (suc n) = sum_below f n + f n
 abbrev pub share_times_word : (ℕ → ℕ) → List ℕ → List ℕ → ℕ → ℕ → ℕ → ℕ
 share_times_word share keys cells width k i = share (slice_index keys i) * slice_index cells (i * width + k)
 
--- word k of the sum over all keys of share times cell
-abbrev pub fold_word : (ℕ → ℕ) → List ℕ → List ℕ → ℕ → ℕ → ℕ
-fold_word share keys cells width k = sum_below (share_times_word share keys cells width k) (length keys)
-
--- each word is that sum
-pub record IsFold (share : ℕ → ℕ) (keys cells : List ℕ) (width : ℕ) (out : List ℕ) : Type 0 where
-  pub each : (k : ℕ) → k < width → slice_index out k ≡ fold_word share keys cells width k % 2 ^ 64
-
--- that sum was added to each word
-pub record Gains (share : ℕ → ℕ) (keys cells : List ℕ) (width : ℕ) (old new : List ℕ) : Type 0 where
-  pub each : (k : ℕ) → k < width → slice_index new k ≡ plus (slice_index old k) (fold_word share keys cells width k)
+-- the sum of these over all keys was added to each word
+pub record GainsEach (share : ℕ → ℕ) (keys cells : List ℕ) (width : ℕ) (old new : List ℕ) : Type 0 where
+  pub each : (k : ℕ) → k < width → slice_index new k ≡ plus (slice_index old k) (sum_below (share_times_word share keys cells width k) (length keys))

@@ -1,7 +1,8 @@
 //! The sums of shares times cells.
-ghost use Rattle.std.specs.Prelude.{◌≡◌, ℕ, ◌*◌, ◌^◌, ◌<◌, ◌≤◌, length, slice_index, All};
+ghost use Rattle.std.specs.Prelude.{◌≡◌, ℕ, ◌*◌, ◌^◌, ◌<◌, ◌≤◌, List, length, slice_index, All};
 ghost use Rattle.spl_words.specs.Words.{plus};
-ghost use Rattle.share_eval.specs.Sums.{Gains, IsFold};
+ghost use Rattle.spl_words.specs.Folds.{AreEntries, IsFold};
+ghost use Rattle.share_eval.specs.Sums.{GainsEach};
 
 use crate::gate::Gate;
 use spl_words::{ShareFn, plus, times};
@@ -36,7 +37,7 @@ pub fn fold_shares<T: Threads + Sync, F: ShareFn + Sync, G: Gate + Sync>(
     requires cells { length cells.now ≡ length keys.now * width }
     requires out { length out.old ≡ width }
     requires lanes { length scratch.old ≡ workers }
-    ensures { IsFold (F.word f.now) keys.now cells.now width out.new }
+    ensures { (entries : List (ℕ × List ℕ)) → AreEntries width entries keys.now cells.now → IsFold (F.word f.now) entries width out.new }
 {
     // One thread does the work of all, so neither the runtime nor the lanes are used yet.
     for piece in 0..workers {
@@ -51,7 +52,7 @@ fn add_keys<F: ShareFn>(f: &F, keys: &[u128], cells: &[u64], width: usize, out: 
     requires bits { All (λ x. x < 2 ^ F.bits f.now) keys.now }
     requires cells { length cells.now ≡ length keys.now * width }
     requires out { length out.old ≡ width }
-    ensures { Gains (F.word f.now) keys.now cells.now width out.old out.new }
+    ensures { GainsEach (F.word f.now) keys.now cells.now width out.old out.new }
 {
     for (i, x) in keys.iter().enumerate() {
         let cell = &cells[i * width..(i + 1) * width];

@@ -67,14 +67,6 @@ impl Columns {
     {
         self.columns.as_slice()
     }
-
-    /// The columns, taken out.
-    pub fn into_vec(self) -> Vec<Column>
-        ensures { result.items ≡ self }
-    {
-        let Columns { columns } = self;
-        columns
-    }
 }
 
 impl Clone for Columns {

@@ -169,14 +169,6 @@ impl Labels {
     {
         self.labels.as_slice()
     }
-
-    /// The labels, taken out.
-    pub fn into_vec(self) -> Vec<Name>
-        ensures { result.items ≡ self }
-    {
-        let Labels { labels } = self;
-        labels
-    }
 }
 
 impl Clone for Labels {

@@ -3,3 +3,4 @@ pub mod Secrets
 pub mod Cursor
 pub mod Results
 pub mod Rising
+pub mod Folds

@@ -1,5 +1,5 @@
 -- Steps of which each may fail, and what a call gave of them.
-use Rattle.std.specs.Prelude.{◌≡◌, Result, Ok, Err}
+use Rattle.std.specs.Prelude.{◌≡◌, ◌⊎◌, Result, Ok, Err}
 
 infixl 10 ◌>>=◌
 -- one step and then the next, up to the first error
@@ -11,3 +11,8 @@ abbrev pub ◌>>=◌ : {A B E : Type 0} → Result A E → (A → Result B E) �
 abbrev pub Is : {X Y E : Type 0} → (X → Y) → Result X E → Result Y E → Type 0
 Is view (Ok x) step = step ≡ Ok (view x)
 Is view (Err e) step = step ≡ Err e
+
+-- the same, unless memory was short, which the error `short` says
+abbrev pub Gives : {X Y E : Type 0} → E → (X → Y) → Result X E → Result Y E → Type 0
+Gives short view (Ok x) step = step ≡ Ok (view x)
+Gives short view (Err e) step = (e ≡ short) ⊎ (step ≡ Err e)

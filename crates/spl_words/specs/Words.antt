@@ -20,6 +20,11 @@ abbrev pub other : Provider → Provider
 other Zero = One
 other One = Zero
 
+-- a provider's one of two
+abbrev pub own : {A : Type 0} → Provider → A × A → A
+own Zero both = both.0
+own One both = both.1
+
 -- a word with a provider's sign: itself for Zero, and 0 minus it for One
 abbrev pub signed : Provider → ℕ → ℕ
 signed Zero word = word

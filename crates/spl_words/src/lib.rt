@@ -18,5 +18,5 @@ pub use fault::FrameFault;
 pub use fields::Fields;
 pub use lists::{Numbers, Places, Words};
 pub use provider::{Provider, other};
-pub use secret::{TreeKind, TreeSecret};
+pub use secret::{KeySpec, TreeKind, TreeSecret};
 pub use share::ShareFn;

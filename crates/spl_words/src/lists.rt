@@ -55,14 +55,6 @@ impl Words {
         self.items.as_slice()
     }
 
-    /// The items as a vector.
-    pub fn into_vec(self) -> Vec<u64>
-        ensures { result.items ≡ self }
-    {
-        let Words { items } = self;
-        items
-    }
-
     /// The items as a vector. The list is left empty, and nothing is allocated.
     pub fn take(&mut self) -> Vec<u64>
         ensures items { result.items ≡ self.old }
@@ -144,14 +136,6 @@ impl Numbers {
         self.items.as_slice()
     }
 
-    /// The items as a vector.
-    pub fn into_vec(self) -> Vec<u128>
-        ensures { result.items ≡ self }
-    {
-        let Numbers { items } = self;
-        items
-    }
-
     /// The items as a vector. The list is left empty, and nothing is allocated.
     pub fn take(&mut self) -> Vec<u128>
         ensures items { result.items ≡ self.old }
@@ -231,14 +215,6 @@ impl Places {
         ensures { result.now ≡ self.now }
     {
         self.items.as_slice()
-    }
-
-    /// The items as a vector.
-    pub fn into_vec(self) -> Vec<u32>
-        ensures { result.items ≡ self }
-    {
-        let Places { items } = self;
-        items
     }
 }
 

@@ -1,4 +1,4 @@
-//! What a tree hides.
+//! What is public of a tree, and what it hides.
 ghost use Rattle.std.specs.Prelude.{◌≡◌};
 
 use std::marker::Model;
@@ -10,6 +10,14 @@ pub enum TreeKind {
     Point,
     /// At each number up to `alpha`.
     Threshold,
+}
+
+/// What is public of a tree.
+#[derive(Clone, Copy, Debug, PartialEq, Eq)]
+pub struct KeySpec {
+    pub kind: TreeKind,
+    /// The bits of its numbers, 1 to 128.
+    pub depth: u32,
 }
 
 /// The secret of a tree. `kind` and `depth` are public, `alpha` and `beta` are not.

@@ -8,7 +8,7 @@ use Rattle.spl_values.specs.Shapes.{ShapeParts}
 use Rattle.spl_values.specs.Tables.{TableParts}
 use Rattle.provider_core.specs.Bounds.{sums_bounded}
 use Rattle.command_words.specs.Orders.{TraceOrder}
-use Rattle.splinter_status.specs.Phases.{Gives}
+use Rattle.splinter_status.specs.Phases.{InputGives}
 use Rattle.splinter_status.specs.declared.stops.InputStop.{InputStop}
 use Rattle.splinter_status.specs.declared.stops.InputStop.TheVariants as input
 use Rattle.splinter_status.specs.declared.stops.Refusal.{Refusal}
@@ -20,7 +20,7 @@ use Rattle.splinter_commands.specs.Effects.{Effect}
 use Rattle.splinter_commands.specs.Commands.{trace_ready, traced}
 use Rattle.splinter_commands.specs.Refusals.{or_provider_refusal}
 
-stop_in : (step : Result (Unit {0}) Refusal) (next : Unit {0} → Result Effect Refusal) (s : InputStop) → Gives {X = Unit {0}} {Y = Unit {0}} (λ x. x) (Err s) step → Gives {X = Traced} {Y = Effect} (λ t. traced t) (Err s) (step >>= next)
+stop_in : (step : Result (Unit {0}) Refusal) (next : Unit {0} → Result Effect Refusal) (s : InputStop) → InputGives {X = Unit {0}} {Y = Unit {0}} (λ x. x) (Err s) step → InputGives {X = Traced} {Y = Effect} (λ t. traced t) (Err s) (step >>= next)
 stop_in step next (input.Refused r) gives = rw gives refl
 stop_in step next input.FileFault gives = tt
 stop_in step next input.OutOfMemory gives = tt
@@ -28,7 +28,7 @@ stop_in step next input.OutOfMemory gives = tt
 -- a sum is over its bound
 pub over_bound : (o : TraceOrder) (files mid : Option FileMap) (shape : ShapeParts) (a : Asked) (table : TableParts) (s : InputStop) (r : Result Traced InputStop) → r ≡ Err s → IfSome files (λ m. shape_in m o.shape ≡ Ok shape)
     → mid ≡ files → asked_in shape o.query o.parameters ≡ Ok a → IfSome mid (λ m. table_in m o.table shape ≡ Ok table)
-    → Gives {X = Unit {0}} {Y = Unit {0}} (λ x. x) (Err s) (or_provider_refusal Zero [] table.shape (sums_bounded table.rows a.checked.spec.items)) → IfSome files (λ m. Gives {X = Traced} {Y = Effect} (λ t. traced t) r (trace_ready o m))
+    → InputGives {X = Unit {0}} {Y = Unit {0}} (λ x. x) (Err s) (or_provider_refusal Zero [] table.shape (sums_bounded table.rows a.checked.spec.items)) → IfSome files (λ m. InputGives {X = Traced} {Y = Effect} (λ t. traced t) r (trace_ready o m))
 unfolding trace_ready
 over_bound o None mid shape a table s r is found same judged read gives = tt
 over_bound o (Some m) mid shape a table s r is found same judged read gives =

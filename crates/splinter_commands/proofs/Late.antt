@@ -4,7 +4,7 @@ use Rattle.std.specs.Prelude.{IfSome, IfErr}
 use Rattle.std.specs.Global.{Vec}
 use Rattle.spl_outside.specs.Causes.{Counts}
 use Rattle.spl_outside.specs.Content.{FileMap, LeftAfter}
-use Rattle.splinter_status.specs.Phases.{EndsAtFiles, Gives}
+use Rattle.splinter_status.specs.Phases.{EndsAtFiles, InputGives}
 use Rattle.splinter_status.specs.declared.stops.Refusal.{Refusal}
 use Rattle.splinter_status.specs.declared.stops.InputStop.{InputStop}
 use Rattle.splinter_status.specs.declared.stops.InputStop.TheVariants as input
@@ -22,7 +22,7 @@ any_words (Some ws) = (ws, refl)
 
 -- ---- before it is ready
 
-ends_early : {X : Type 0} (view : X → Effect) (s : InputStop) (ready : Result Effect Refusal) (ws : List ℕ) (m : FileMap) → Gives view (Err s) ready → Ends (Err (stopped.Input s)) ready ws m (Some m)
+ends_early : {X : Type 0} (view : X → Effect) (s : InputStop) (ready : Result Effect Refusal) (ws : List ℕ) (m : FileMap) → InputGives view (Err s) ready → Ends (Err (stopped.Input s)) ready ws m (Some m)
 ends_early view (input.Refused r) ready ws m gives = (gives, refl)
 ends_early view input.FileFault ready ws m gives = refl
 ends_early view input.OutOfMemory ready ws m gives = refl
@@ -32,7 +32,7 @@ takes_none count s None = tt
 takes_none count s (Some ws) = refl
 
 early_in : {X : Type 0} (view : X → Effect) (ready : FileMap → Result Effect Refusal) (files : Option FileMap) (words : Option (List ℕ)) (s : InputStop)
-    → IfSome files (λ m. Gives view (Err s) (ready m)) → IfSome files (λ m. Meets (ready m) m files words words (Err (stopped.Input s)))
+    → IfSome files (λ m. InputGives view (Err s) (ready m)) → IfSome files (λ m. Meets (ready m) m files words words (Err (stopped.Input s)))
 early_in view ready None words s gives = tt
 early_in view ready (Some m) words s gives =
     let some = any_words words in
@@ -43,7 +43,7 @@ early_in view ready (Some m) words s gives =
 
 -- nothing was drawn and nothing written
 pub early : {X : Type 0} (view : X → Effect) (ready : FileMap → Result Effect Refusal) (files held : Option FileMap) (words : Option (List ℕ)) (s : InputStop) (r : Result (Vec ℕ) Stopped)
-    → r ≡ Err (stopped.Input s) → held ≡ files → IfSome files (λ m. Gives view (Err s) (ready m)) → IfSome files (λ m. Meets (ready m) m held words words r)
+    → r ≡ Err (stopped.Input s) → held ≡ files → IfSome files (λ m. InputGives view (Err s) (ready m)) → IfSome files (λ m. Meets (ready m) m held words words r)
 early view ready files held words s r is stays gives =
     subst (λ k. IfSome files (λ m. Meets (ready m) m k words words r)) (sym stays)
     (subst (λ (q : Result (Vec ℕ) Stopped). IfSome files (λ m. Meets (ready m) m files words words q)) (sym is) (early_in view ready files words s gives))

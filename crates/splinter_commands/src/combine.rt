@@ -3,7 +3,7 @@ ghost use Rattle.std.specs.Prelude.{◌≡◌, Ok, IfSome, IfOk, IfErr, IsErrOf}
 ghost use Rattle.spl_outside.specs.Causes.{Counts};
 ghost use Rattle.client_rounds.specs.Finishing.{note_in, answer_in, result_of, IsJudged};
 ghost use Rattle.command_words.specs.Views.{combine_order};
-ghost use Rattle.splinter_status.specs.Phases.{Gives, StopsAtFiles, EndsAtFiles};
+ghost use Rattle.splinter_status.specs.Phases.{InputGives, StopsAtFiles, EndsAtFiles};
 ghost use Rattle.splinter_commands.specs.Commands.{answer_of, combine_ready, combined, noted_in};
 ghost use Rattle.splinter_commands.specs.Meets.{FilesFailed, Meets};
 ghost use Rattle.splinter_commands.specs.Refusals.{or_ask_refusal};
@@ -20,7 +20,7 @@ use std::alloc::Global;
 
 /// What the bytes of the note say.
 fn judged_note(alloc: Global, words: &CombineWords<'_>, bytes: &[u8]) -> Result<Judged, InputStop>
-    ensures gives { Gives (λ judged. judged) result (or_ask_refusal (combine_order words.now) (note_in bytes.now)) }
+    ensures gives { InputGives (λ judged. judged) result (or_ask_refusal (combine_order words.now) (note_in bytes.now)) }
     ensures known { IfOk result IsJudged }
     ensures refusals { IfErr result StopsAtFiles }
     ensures no_fault { IsErrOf result InputStop.FileFault → ⊥ }
@@ -38,7 +38,7 @@ fn judged_answer(
     bytes: &[u8],
     source: Source,
 ) -> Result<AnswerFrame, InputStop>
-    ensures gives { Gives (λ answer. answer) result (or_ask_refusal (combine_order words.now) (answer_in source bytes.now)) }
+    ensures gives { InputGives (λ answer. answer) result (or_ask_refusal (combine_order words.now) (answer_in source bytes.now)) }
     ensures refusals { IfErr result StopsAtFiles }
     ensures no_fault { IsErrOf result InputStop.FileFault → ⊥ }
 {
@@ -55,7 +55,7 @@ fn read_note<F: Files>(
     files: &mut F,
     words: &CombineWords<'_>,
 ) -> Result<Judged, InputStop>
-    ensures gives { IfSome (F.held files.old) (λ m. Gives (λ judged. judged) result (noted_in (combine_order words.now) m)) }
+    ensures gives { IfSome (F.held files.old) (λ m. InputGives (λ judged. judged) result (noted_in (combine_order words.now) m)) }
     ensures known { IfOk result IsJudged }
     ensures refusals { IfErr result StopsAtFiles }
     ensures stays { F.held files.new ≡ F.held files.old }
@@ -73,7 +73,7 @@ fn read_answer<F: Files>(
     words: &CombineWords<'_>,
     source: Source,
 ) -> Result<AnswerFrame, InputStop>
-    ensures gives { IfSome (F.held files.old) (λ m. Gives (λ answer. answer) result (answer_of (combine_order words.now) source m)) }
+    ensures gives { IfSome (F.held files.old) (λ m. InputGives (λ answer. answer) result (answer_of (combine_order words.now) source m)) }
     ensures refusals { IfErr result StopsAtFiles }
     ensures stays { F.held files.new ≡ F.held files.old }
     ensures counts { Counts (F.faults files.old) (F.faults files.new) (IsErrOf result InputStop.FileFault) }
@@ -91,7 +91,7 @@ fn combined_text(
     second: &AnswerFrame,
 ) -> Result<Bytes, InputStop>
     requires { IsJudged judged.now }
-    ensures gives { Gives (λ text. text) result (or_ask_refusal (combine_order words.now) (result_of judged.now first.now second.now)) }
+    ensures gives { InputGives (λ text. text) result (or_ask_refusal (combine_order words.now) (result_of judged.now first.now second.now)) }
     ensures refusals { IfErr result StopsAtFiles }
     ensures no_fault { IsErrOf result InputStop.FileFault → ⊥ }
 {
@@ -108,7 +108,7 @@ fn combine_files<F: Files>(
     files: &mut F,
     words: &CombineWords<'_>,
 ) -> Result<Bytes, InputStop>
-    ensures gives { IfSome (F.held files.old) (λ m. Gives combined result (combine_ready (combine_order words.now) m)) }
+    ensures gives { IfSome (F.held files.old) (λ m. InputGives combined result (combine_ready (combine_order words.now) m)) }
     ensures refusals { IfErr result StopsAtFiles }
     ensures stays { F.held files.new ≡ F.held files.old }
     ensures counts { Counts (F.faults files.old) (F.faults files.new) (IsErrOf result InputStop.FileFault) }

@@ -2,7 +2,7 @@
 ghost use Rattle.std.specs.Prelude.{◌≡◌, Err, IfSome, IfOk, IfErr, IsErrOf};
 ghost use Rattle.spl_outside.specs.Causes.{Counts};
 ghost use Rattle.command_words.specs.Views.{keys_order};
-ghost use Rattle.splinter_status.specs.Phases.{Gives, StopsAtFiles, EndsAtFiles};
+ghost use Rattle.splinter_status.specs.Phases.{InputGives, StopsAtFiles, EndsAtFiles};
 ghost use Rattle.splinter_status.specs.declared.stops.Stopped.TheVariants as stopped;
 ghost use Rattle.splinter_steps.specs.Outputs.{IsLate};
 ghost use Rattle.splinter_steps.specs.Writes.{Puts};
@@ -38,7 +38,7 @@ fn read_question<F: Files>(
     files: &mut F,
     words: &KeysWords<'_>,
 ) -> Result<Question, InputStop>
-    ensures gives { IfSome (F.held files.old) (λ m. Gives (asked (keys_order words.now)) result (keys_ready (keys_order words.now) m)) }
+    ensures gives { IfSome (F.held files.old) (λ m. InputGives (asked (keys_order words.now)) result (keys_ready (keys_order words.now) m)) }
     ensures question { IfOk result IsQuestion }
     ensures refusals { IfErr result StopsAtFiles }
     ensures stays { F.held files.new ≡ F.held files.old }

@@ -5,7 +5,7 @@ ghost use Rattle.spl_words.specs.declared.provider.Provider.TheVariants.{Zero};
 ghost use Rattle.provider_core.specs.Bounds.{sums_bounded};
 ghost use Rattle.query_reader.specs.Accepted.{IsCheckedFor};
 ghost use Rattle.command_words.specs.Views.{trace_order, IsWorkers};
-ghost use Rattle.splinter_status.specs.Phases.{Gives, StopsAtFiles, EndsAtFiles};
+ghost use Rattle.splinter_status.specs.Phases.{InputGives, StopsAtFiles, EndsAtFiles};
 ghost use Rattle.splinter_status.specs.declared.stops.Stopped.TheVariants as stopped;
 ghost use Rattle.splinter_commands.specs.Commands.{trace_ready, traced};
 ghost use Rattle.splinter_commands.specs.Meets.{FilesFailed, Meets, TakesSome};
@@ -42,7 +42,7 @@ pub struct Traced {
 /// Refuses a sum over its bound.
 fn check_bounds(alloc: Global, asked: &Asked, table: &Table) -> Result<(), InputStop>
     requires { IsCheckedFor asked.now.checked table.now.shape.schema }
-    ensures gives { Gives (λ bounded. bounded) result (or_provider_refusal Zero [] table.now.shape (sums_bounded table.now.rows asked.now.checked.spec.items)) }
+    ensures gives { InputGives (λ bounded. bounded) result (or_provider_refusal Zero [] table.now.shape (sums_bounded table.now.rows asked.now.checked.spec.items)) }
     ensures bounded { IfOk result (λ _. sums_bounded table.now.rows asked.now.checked.spec.items ≡ Ok tt) }
     ensures refusals { IfErr result StopsAtFiles }
     ensures no_fault { IsErrOf result InputStop.FileFault → ⊥ }
@@ -69,7 +69,7 @@ fn read_traced<F: Files>(
     files: &mut F,
     words: &TraceWords<'_>,
 ) -> Result<Traced, InputStop>
-    ensures gives { IfSome (F.held files.old) (λ m. Gives traced result (trace_ready (trace_order words.now) m)) }
+    ensures gives { IfSome (F.held files.old) (λ m. InputGives traced result (trace_ready (trace_order words.now) m)) }
     ensures traced { IfOk result IsTraced }
     ensures refusals { IfErr result StopsAtFiles }
     ensures stays { F.held files.new ≡ F.held files.old }

@@ -32,11 +32,11 @@ ReadGives (Err read.Fault) step = Unit {0}
 ReadGives (Err read.OutOfMemory) step = Unit {0}
 
 -- what was read is what the step gives, its value seen by `view`, unless the files failed or memory was short
-abbrev pub Gives : {X Y : Type 0} → (X → Y) → Result X InputStop → Result Y Refusal → Type 0
-Gives view (Ok x) step = step ≡ Ok (view x)
-Gives view (Err (input.Refused r)) step = step ≡ Err r
-Gives view (Err input.FileFault) step = Unit {0}
-Gives view (Err input.OutOfMemory) step = Unit {0}
+abbrev pub InputGives : {X Y : Type 0} → (X → Y) → Result X InputStop → Result Y Refusal → Type 0
+InputGives view (Ok x) step = step ≡ Ok (view x)
+InputGives view (Err (input.Refused r)) step = step ≡ Err r
+InputGives view (Err input.FileFault) step = Unit {0}
+InputGives view (Err input.OutOfMemory) step = Unit {0}
 
 -- a refusal of what files hold: the words form a command, no fault in it is want of memory, and of all parts only a plan can have a form that isn't built
 abbrev pub IsOfFiles : Refusal → Type 0

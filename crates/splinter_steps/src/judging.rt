@@ -6,7 +6,7 @@ ghost use Rattle.query_reader.specs.Accepted.{IsCheckedFor};
 ghost use Rattle.query_reader.specs.Params.{AreParamsFor, params_of_words as params_in_words};
 ghost use Rattle.judged_queries.specs.Queries.{checked_in};
 ghost use Rattle.private_plan.specs.Plans.{plan_of, is_sum};
-ghost use Rattle.splinter_status.specs.Phases.{Gives, StopsAtFiles};
+ghost use Rattle.splinter_status.specs.Phases.{InputGives, StopsAtFiles};
 ghost use Rattle.splinter_steps.specs.Questions.{asked_in, if_built, or_param_refusal, or_query_refusal, IsAsked};
 ghost use Rattle.splinter_steps.specs.Stops.{stop_of_params};
 
@@ -28,7 +28,7 @@ pub struct Asked {
 
 /// What is known of the query that a text is, for a shape.
 fn checked_query(alloc: Global, shape: &Shape, text: &str) -> Result<Checked, InputStop>
-    ensures gives { Gives (λ checked. checked) result (or_query_refusal (checked_in shape.now.schema text.now)) }
+    ensures gives { InputGives (λ checked. checked) result (or_query_refusal (checked_in shape.now.schema text.now)) }
     ensures known { IfOk result (λ checked. IsCheckedFor checked shape.now.schema) }
     ensures refusals { IfErr result StopsAtFiles }
     ensures no_fault { IsErrOf result InputStop.FileFault → ⊥ }
@@ -43,7 +43,7 @@ fn checked_query(alloc: Global, shape: &Shape, text: &str) -> Result<Checked, In
 /// Refuses a query whose plan isn't built yet: one that isn't of counts, sums and means alone.
 fn check_built(alloc: Global, checked: &Checked, shape: &Shape) -> Result<(), InputStop>
     requires { IsCheckedFor checked.now shape.now.schema }
-    ensures gives { Gives (λ built. built) result (if_built (plan_of checked.now shape.now).kind) }
+    ensures gives { InputGives (λ built. built) result (if_built (plan_of checked.now shape.now).kind) }
     ensures sums { IfOk result (λ _. list_all is_sum checked.now.spec.items ≡ true) }
     ensures refusals { IfErr result StopsAtFiles }
     ensures no_fault { IsErrOf result InputStop.FileFault → ⊥ }
@@ -77,7 +77,7 @@ fn params_of(
     words: &[String],
 ) -> Result<Params, InputStop>
     requires { IsCheckedFor checked.now shape.now.schema }
-    ensures gives { Gives (λ params. params) result (or_param_refusal (params_in_words checked.now.query shape.now.schema (map string_bytes words.now))) }
+    ensures gives { InputGives (λ params. params) result (or_param_refusal (params_in_words checked.now.query shape.now.schema (map string_bytes words.now))) }
     ensures known { IfOk result (λ params. AreParamsFor checked.now shape.now.schema params) }
     ensures refusals { IfErr result StopsAtFiles }
     ensures no_fault { IsErrOf result InputStop.FileFault → ⊥ }
@@ -96,7 +96,7 @@ pub fn judge(
     query: &str,
     parameters: &[String],
 ) -> Result<Asked, InputStop>
-    ensures gives { Gives (λ asked. asked) result (asked_in shape.now query.now (map string_bytes parameters.now)) }
+    ensures gives { InputGives (λ asked. asked) result (asked_in shape.now query.now (map string_bytes parameters.now)) }
     ensures asked { IfOk result (IsAsked shape.now) }
     ensures refusals { IfErr result StopsAtFiles }
     ensures no_fault { IsErrOf result InputStop.FileFault → ⊥ }

@@ -2,7 +2,7 @@
 ghost use Rattle.std.specs.Prelude.{◌≡◌, IfSome, IfOk, IfErr, IsErrOf};
 ghost use Rattle.spl_outside.specs.Causes.{Counts};
 ghost use Rattle.spl_values.specs.ShapeTexts.{shape_of};
-ghost use Rattle.splinter_status.specs.Phases.{ReadGives, Gives, StopsAtFiles};
+ghost use Rattle.splinter_status.specs.Phases.{ReadGives, InputGives, StopsAtFiles};
 ghost use Rattle.csv_tables.specs.Reading.{table_of_text};
 ghost use Rattle.splinter_steps.specs.Reads.{file_of, or_shape_refusal, shape_in, or_table_refusal, table_in};
 
@@ -36,7 +36,7 @@ pub fn read_file<F: Files>(alloc: Global, files: &mut F, name: &str) -> Result<V
 
 /// The shape that a text describes.
 fn shape_of_text(alloc: Global, text: &[u8]) -> Result<Shape, InputStop>
-    ensures gives { Gives (λ shape. shape) result (or_shape_refusal (shape_of text.now)) }
+    ensures gives { InputGives (λ shape. shape) result (or_shape_refusal (shape_of text.now)) }
     ensures refusals { IfErr result StopsAtFiles }
     ensures no_fault { IsErrOf result InputStop.FileFault → ⊥ }
 {
@@ -50,7 +50,7 @@ fn shape_of_text(alloc: Global, text: &[u8]) -> Result<Shape, InputStop>
 /// Reads a file and the shape that it describes.
 #[tactic(auto, unfolding(crate::specs::Reads::shape_in))]
 pub fn read_shape<F: Files>(alloc: Global, files: &mut F, name: &str) -> Result<Shape, InputStop>
-    ensures gives { IfSome (F.held files.old) (λ m. Gives (λ shape. shape) result (shape_in m name.now)) }
+    ensures gives { IfSome (F.held files.old) (λ m. InputGives (λ shape. shape) result (shape_in m name.now)) }
     ensures refusals { IfErr result StopsAtFiles }
     ensures stays { F.held files.new ≡ F.held files.old }
     ensures counts { Counts (F.faults files.old) (F.faults files.new) (IsErrOf result InputStop.FileFault) }
@@ -61,7 +61,7 @@ pub fn read_shape<F: Files>(alloc: Global, files: &mut F, name: &str) -> Result<
 
 /// The table that a text has for a shape.
 fn table_of_text(alloc: Global, text: &[u8], shape: &Shape) -> Result<Table, InputStop>
-    ensures gives { Gives (λ table. table) result (or_table_refusal shape.now (table_of_text shape.now text.now)) }
+    ensures gives { InputGives (λ table. table) result (or_table_refusal shape.now (table_of_text shape.now text.now)) }
     ensures shape { IfOk result (λ table. table.shape ≡ shape.now) }
     ensures refusals { IfErr result StopsAtFiles }
     ensures no_fault { IsErrOf result InputStop.FileFault → ⊥ }
@@ -81,7 +81,7 @@ pub fn read_table<F: Files>(
     name: &str,
     shape: &Shape,
 ) -> Result<Table, InputStop>
-    ensures gives { IfSome (F.held files.old) (λ m. Gives (λ table. table) result (table_in m name.now shape.now)) }
+    ensures gives { IfSome (F.held files.old) (λ m. InputGives (λ table. table) result (table_in m name.now shape.now)) }
     ensures shape { IfOk result (λ table. table.shape ≡ shape.now) }
     ensures refusals { IfErr result StopsAtFiles }
     ensures stays { F.held files.new ≡ F.held files.old }
