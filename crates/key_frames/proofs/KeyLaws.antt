@@ -14,7 +14,8 @@ use Rattle.point_keys.specs.declared.keys.PointKey.{PointKey}
 use Rattle.interval_keys.specs.declared.keys.ThresholdKey.{ThresholdKey}
 use Rattle.key_frames.specs.declared.keys.Key.{Key}
 use Rattle.key_frames.specs.declared.keys.Key.TheVariants.{Point, Threshold}
-use Rattle.key_frames.specs.Keys.{bits_byte, correction, threshold_level, point_key, threshold_key, kind_byte, key_fields, key, key_length, CorrectionTyped, LevelTyped, KeyAllowed, PointTyped, ThresholdTyped, KeyTyped}
+use Rattle.key_frames.specs.Trees.{key_tree, tree_length}
+use Rattle.key_frames.specs.Keys.{bits_byte, correction, threshold_level, point_key, threshold_key, kind_byte, key_fields, key, CorrectionTyped, LevelTyped, KeyAllowed, PointTyped, ThresholdTyped, KeyTyped}
 use Rattle.key_frames.specs.KeyReading.{left_bit, right_bit, correction_at, level_at, point_at, threshold_at, of_kind, key_at}
 
 -- a point key that a frame may hold
@@ -177,12 +178,12 @@ threshold_length k =
     let levels = length_of_parts threshold_level 33 level_length k.levels in
     omega (arith, length-append (flat_map threshold_level k.levels) (to_be_bytes w64 k.last), levels)
 
-pub length_key : (k : Key) → length (key k) ≡ key_length k
+pub length_key : (k : Key) → length (key k) ≡ tree_length (key_tree k)
 unfolding key
 length_key (Point k) = omega (arith, point_length k)
 length_key (Threshold k) = omega (arith, threshold_length k)
 
-pub length_keys : (ks : List Key) → length (flat_map key ks) ≡ sum_by key_length ks
+pub length_keys : (ks : List Key) → length (flat_map key ks) ≡ sum_by (λ k. tree_length (key_tree k)) ks
 length_keys ks = length-flat_map key ks ∙ λ i. sum_by (λ k. length_key k i) ks
 
 pub key_short : (k : Key) → KeyFits k → length (key k) ≤ 4250

@@ -1,3 +1,4 @@
+pub mod TreeLaws
 pub mod KeyLaws
 pub mod ShapeTextLaws
 pub mod FrameLaws

@@ -7,7 +7,8 @@ use Rattle.spl_values.specs.ShapeTexts.{shape_text}
 use Rattle.frame_fields.specs.Typed.{IsBytes}
 use Rattle.frame_fields.specs.Reading.{provider_byte, sealed}
 use Rattle.key_frames.specs.declared.frame.KeyFrame.{KeyFrame}
-use Rattle.key_frames.specs.Keys.{key, key_length, KeyAllowed, KeyTyped}
+use Rattle.key_frames.specs.Trees.{key_tree, tree_length}
+use Rattle.key_frames.specs.Keys.{key, KeyAllowed, KeyTyped}
 use Rattle.key_frames.specs.Texts.{is_bad}
 
 -- the fields before the digest
@@ -20,7 +21,7 @@ frame_body f =
 
 -- the number of its bytes
 abbrev pub frame_length : KeyFrame → ℕ
-frame_length f = 61 + length f.query + length (shape_text f.shape) + sum_by key_length f.keys
+frame_length f = 61 + length f.query + length (shape_text f.shape) + sum_by (λ k. tree_length (key_tree k)) f.keys
 
 -- the values that a frame may have
 pub record FrameAllowed (f : KeyFrame) : Type 0 where

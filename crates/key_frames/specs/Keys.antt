@@ -8,6 +8,7 @@ use Rattle.interval_keys.specs.declared.keys.ThresholdKey.{ThresholdKey}
 use Rattle.interval_keys.specs.declared.keys.ThresholdLevel.{ThresholdLevel}
 use Rattle.key_frames.specs.declared.keys.Key.{Key}
 use Rattle.key_frames.specs.declared.keys.Key.TheVariants.{Point, Threshold}
+use Rattle.key_frames.specs.Trees.{key_tree}
 
 -- the byte of a level's two control bits: the left one is bit 0, the right one bit 1
 abbrev pub bits_byte : Bool → Bool → ℕ
@@ -48,13 +49,7 @@ key k = to_be_bytes w8 (kind_byte k) ++ key_fields k
 
 -- the number of a key's levels
 abbrev pub depth : Key → ℕ
-depth (Point k) = length k.levels
-depth (Threshold k) = length k.levels
-
--- the number of a key's bytes: a threshold key has two words more on each level
-abbrev pub key_length : Key → ℕ
-key_length (Point k) = 26 + 17 * length k.levels
-key_length (Threshold k) = 26 + 33 * length k.levels
+depth k = (key_tree k).depth
 
 -- the keys that a frame may hold: those of 1 to 128 levels
 pub record KeyAllowed (k : Key) : Type 0 where

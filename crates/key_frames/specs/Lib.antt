@@ -1,3 +1,4 @@
+pub mod Trees
 pub mod Keys
 pub mod KeyReading
 pub mod Texts

@@ -13,6 +13,7 @@ mod note;
 mod note_reading;
 mod note_writing;
 mod texts;
+mod trees;
 
 pub use frame::{KeyFrame, frame_digest};
 pub use frame_reading::read_key_frame;
@@ -21,3 +22,4 @@ pub use keys::{Key, Keys};
 pub use note::Note;
 pub use note_reading::read_note;
 pub use note_writing::write_note;
+pub use trees::tree_length;
