@@ -9,7 +9,7 @@ use Rattle.seed_expansion.specs.Expanders.{Meaning}
 use Rattle.key_frames.specs.Keys.{KeyAllowed}
 use Rattle.key_frames.specs.Frames.{FrameAllowed}
 use Rattle.key_frames.specs.Texts.{is_bad}
-use Rattle.session_model.specs.KeyLists.{key_of, key_list}
+use Rattle.key_frames.specs.Trees.{key_of, key_list}
 use Rattle.session_model.specs.Sessions.{frame_of}
 use Rattle.session_model.proofs.KeyTrees.{depth_same}
 use Rattle.client_rounds.proofs.Trees.{HasDepth}

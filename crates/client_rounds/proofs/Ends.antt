@@ -41,7 +41,7 @@ use Rattle.answer_frames.specs.declared.answer.AnswerFrame.{AnswerFrame}
 use Rattle.answer_frames.specs.Spelling.{AnswerOf}
 use Rattle.key_frames.specs.Notes.{NoteOf}
 use Rattle.session_model.specs.Draws.{wide, roots_of}
-use Rattle.session_model.specs.KeyLists.{key_list, key_shares}
+use Rattle.key_frames.specs.Trees.{key_list, key_shares}
 use Rattle.session_model.specs.Providers.{weighted_word}
 use Rattle.session_model.specs.Answers.{answer_word, answer_frame}
 use Rattle.session_model.specs.Sessions.{session_roots, key_frame, key_bytes, round_answer, note, note_bytes, clear_text}

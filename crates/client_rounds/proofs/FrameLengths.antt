@@ -9,7 +9,6 @@ use Rattle.spl_values.specs.ShapeTexts.{shape_text}
 use Rattle.seed_expansion.specs.Expanders.{Meaning}
 use Rattle.query_tokens.specs.Printing.{canonical_text}
 use Rattle.query_reader.specs.declared.checked.Checked.{Checked}
-use Rattle.private_plan.specs.Lengths.{key_length}
 use Rattle.private_plan.specs.Plans.{is_sum, last_bits}
 use Rattle.private_plan.specs.Slots.{sum_secrets}
 use Rattle.private_plan.proofs.Accepted.{secrets_laid}
@@ -18,7 +17,7 @@ use Rattle.key_frames.specs.declared.keys.Key.TheVariants.{Point, Threshold}
 use Rattle.key_frames.specs.Frames.{KeyFrameOf}
 use Rattle.key_frames.specs.Keys.{key_length as bytes_of_key}
 use Rattle.key_frames.proofs.FrameLaws.{frame_sized}
-use Rattle.session_model.specs.KeyLists.{key_tree}
+use Rattle.key_frames.specs.Trees.{key_tree, tree_length}
 use Rattle.session_model.specs.Sessions.{key_frame, session_roots}
 use Rattle.session_model.proofs.KeyTrees.{trees_same}
 use Rattle.client_rounds.specs.Asked.{IsAsked}

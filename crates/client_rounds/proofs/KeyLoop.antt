@@ -5,7 +5,7 @@ use Rattle.spl_words.specs.declared.provider.Provider.{Provider}
 use Rattle.spl_words.specs.Secrets.{Secret}
 use Rattle.seed_expansion.specs.Expanders.{Meaning}
 use Rattle.key_frames.specs.declared.keys.Key.{Key}
-use Rattle.session_model.specs.KeyLists.{key_of, key_list}
+use Rattle.key_frames.specs.Trees.{key_of, key_list}
 
 module _ (e : Meaning) (p : Provider) (first : ℕ) (ss : List Secret) (rs : List (ℕ × ℕ)) where
   -- after i trees: the keys so far, and before those of the other trees

@@ -37,7 +37,7 @@ use Rattle.key_frames.specs.Frames.{KeyFrameOf}
 use Rattle.key_frames.specs.Notes.{NoteOf}
 use Rattle.private_plan.specs.Slots.{sum_secrets}
 use Rattle.session_model.specs.Draws.{wide, roots_of}
-use Rattle.session_model.specs.KeyLists.{key_of, key_list}
+use Rattle.key_frames.specs.Trees.{key_of, key_list}
 use Rattle.session_model.specs.Sessions.{session_roots, key_frame, key_bytes, note, note_bytes}
 use Rattle.client_rounds.specs.Asked.{IsAsked}
 use Rattle.client_rounds.specs.Expanding.{GivesSeeds}

@@ -1,8 +1,8 @@
 //! The key frames of a round.
 ghost use Rattle.std.specs.Prelude.{◌≡◌, ◌+◌, ◌<◌, ◌≤◌, ◌^◌, length, map, IfOk};
 ghost use Rattle.spl_words.specs.declared.provider.Provider.TheVariants.{Zero, One};
-ghost use Rattle.private_plan.specs.Slots.{secret_tree};
-ghost use Rattle.session_model.specs.KeyLists.{key_of, key_list, key_tree};
+ghost use Rattle.spl_words.specs.Secrets.{secret_tree};
+ghost use Rattle.key_frames.specs.Trees.{key_of, key_list, key_tree};
 ghost use Rattle.session_model.specs.Sessions.{frame_of};
 
 use crate::roots::Roots;

@@ -1,13 +1,14 @@
 -- What is known of the intervals, the slots and the secrets of an accepted query.
-use Rattle.std.proofs.Common.{◌≡◌, ℕ, zero, suc, ◌+◌, ◌^◌, ◌<◌, ◌≤◌, Bool, true, false, List, [], ◌∷◌, ◌++◌, length, map, get_or, drop, Option, Some, None, refl, sym, ap, subst, ◌∙◌, IfSome}
+use Rattle.std.proofs.Common.{◌≡◌, ℕ, zero, suc, ◌+◌, ◌-◌, ◌^◌, ◌<◌, ◌≤◌, Bool, true, false, List, [], ◌∷◌, ◌++◌, length, map, replicate, get_or, drop, Option, Some, None, refl, sym, ap, subst, ◌∙◌, IfSome}
 use Rattle.std.specs.List.{flat_map, range_with_len}
-use Rattle.spl_words.specs.declared.secret.TreeKind.TheVariants.{Threshold}
-use Rattle.spl_words.specs.Secrets.{Secret}
+use Rattle.spl_words.specs.declared.secret.TreeKind.TheVariants.{Point, Threshold}
+use Rattle.spl_words.specs.Secrets.{Secret, secret_tree}
 use Rattle.spl_values.specs.Shapes.{ColumnParts, SchemaParts, ShapeParts}
 use Rattle.spl_values.specs.Tables.{key_bits}
 use Rattle.interval_keys.specs.Intervals.{Span, minus_below}
 use Rattle.interval_keys.specs.Slots.{EachSpan, IsSpan}
 use Rattle.interval_keys.proofs.SlotLaws.{each_slot, length-slots, single_slots}
+use Rattle.aligned_ranges.specs.declared.ranges.Range.{Range}
 use Rattle.query_grammar.specs.Canonical.{IsQuery}
 use Rattle.query_reader.specs.declared.checked.Checked.{Checked}
 use Rattle.query_reader.specs.Accepted.{IsCheckedFor}
@@ -15,13 +16,13 @@ use Rattle.query_reader.specs.Matching.{branch_params}
 use Rattle.query_reader.specs.Params.{AreParamsFor}
 use Rattle.query_reader.proofs.Known.{checked_bits, checked_some}
 use Rattle.query_reader.proofs.Lists.{all_at}
-use Rattle.cell_merge.specs.Cells.{cell_width}
-use Rattle.private_plan.specs.declared.plans.KeySpec.{KeySpec}
+use Rattle.spl_words.specs.declared.secret.KeySpec.{KeySpec}
 use Rattle.private_plan.specs.declared.plans.PlanKind.{PlanKind}
 use Rattle.private_plan.specs.declared.plans.PlanKind.TheVariants as kind
 use Rattle.private_plan.specs.Branches.{branch_spans}
-use Rattle.private_plan.specs.Plans.{last_bits, plan_for, plan_of, slot_trees, tree}
-use Rattle.private_plan.specs.Slots.{secret_tree, slot_secrets, slots_of, sum_secrets}
+use Rattle.private_plan.specs.Plans.{kind_of, last_bits, plan_of, slot_trees, tree}
+use Rattle.private_plan.specs.Slots.{count_below, level_secrets, slot_level, slot_secrets, slots_of}
+use Rattle.private_plan.specs.Rounds.{first_round, first_secrets, secrets_in}
 use Rattle.private_plan.proofs.OneValue.{Agrees, joins_agree, spans_agree}
 use Rattle.private_plan.proofs.SlotSecrets.{first, second, single_spans}
 use Rattle.private_plan.proofs.Spans.{spans_fit}
@@ -33,20 +34,39 @@ module _ (bits : ℕ) where
   below_tree zero = refl
   below_tree (suc n) = refl
 
-  slot_laid : (range : Bool) (w : ℕ) (slot : Option Span) → map secret_tree (slot_secrets range bits slot) ≡ slot_trees kind.Sum range bits w
-  slot_laid false w None = refl
-  slot_laid false w (Some s) = refl
-  slot_laid true w None = refl
-  slot_laid true w (Some s) = ap (λ t. tree Threshold bits ∷ t ∷ []) (below_tree s.lo)
-
   both_laid : (xs ys : List Secret) (ts us : List KeySpec) → map secret_tree xs ≡ ts → map secret_tree ys ≡ us → map secret_tree (xs ++ ys) ≡ ts ++ us
   both_laid [] ys ts us e f = ap (λ l. l ++ map secret_tree ys) e ∙ ap (λ l. ts ++ l) f
   both_laid (x ∷ xs) ys ts us e f = ap (λ l. secret_tree x ∷ l) (both_laid xs ys (map secret_tree xs) us refl f) ∙ ap (λ l. l ++ us) e
 
+  level_laid : (rs : List Range) → map secret_tree (level_secrets bits rs) ≡ replicate 2 (tree Point bits)
+  level_laid [] = refl
+  level_laid (r ∷ []) = refl
+  level_laid (r ∷ s ∷ rs) = refl
+
+module _ (n : ℕ) where
+  levels_laid : (level : ℕ → List Range) (js : List ℕ) → map secret_tree (flat_map (λ j. level_secrets (n - j) (level j)) js) ≡ flat_map (λ j. replicate 2 (tree Point (n - j))) js
+  levels_laid level [] = refl
+  levels_laid level (j ∷ js) = both_laid n (level_secrets (n - j) (level j)) (flat_map (λ i. level_secrets (n - i) (level i)) js) _ _ (level_laid (n - j) (level j)) (levels_laid level js)
+
+  count_tree : (x : ℕ) → secret_tree (count_below n x) ≡ tree Threshold n
+  count_tree zero = refl
+  count_tree (suc x) = refl
+
+  slot_laid : (k : PlanKind) (range : Bool) (w : ℕ) (slot : Option Span) → map secret_tree (first_secrets k range n w slot) ≡ slot_trees k range n w
+  slot_laid kind.Sum false w None = refl
+  slot_laid kind.Sum false w (Some s) = refl
+  slot_laid kind.Sum true w None = refl
+  slot_laid kind.Sum true w (Some s) = ap (λ t. tree Threshold n ∷ t ∷ []) (below_tree n s.lo)
+  slot_laid kind.Point range w None = refl
+  slot_laid kind.Point range w (Some s) = refl
+  slot_laid kind.Aligned range w slot = levels_laid (slot_level w slot) (range_with_len 0 w)
+  slot_laid kind.Position range w None = refl
+  slot_laid kind.Position range w (Some s) = ap (λ t. t ∷ tree Threshold n ∷ []) (count_tree s.lo)
+
   -- the trees of the secrets of slots are those of as many slots of the plan
-  slots_laid : (range : Bool) (w from : ℕ) (l : List (Option Span)) → map secret_tree (flat_map (slot_secrets range bits) l) ≡ flat_map (λ i. slot_trees kind.Sum range bits w) (range_with_len from (length l))
-  slots_laid range w from [] = refl
-  slots_laid range w from (s ∷ l) = both_laid (slot_secrets range bits s) (flat_map (slot_secrets range bits) l) _ _ (slot_laid range w s) (slots_laid range w (from + 1) l)
+  slots_laid : (k : PlanKind) (range : Bool) (w from : ℕ) (l : List (Option Span)) → map secret_tree (flat_map (first_secrets k range n w) l) ≡ flat_map (λ i. slot_trees k range n w) (range_with_len from (length l))
+  slots_laid k range w from [] = refl
+  slots_laid k range w from (s ∷ l) = both_laid n (first_secrets k range n w s) (flat_map (first_secrets k range n w) l) _ _ (slot_laid k range w s) (slots_laid k range w (from + 1) l)
 
 -- ---- an accepted query
 
@@ -88,14 +108,18 @@ module _ (checked : Checked) (schema : SchemaParts) (params : List ℕ) (h : IsC
   pub length-slots_of : length (slots_of checked schema.columns params) ≡ checked.branches
   length-slots_of = length-slots spans valid_spans ∙ length-spans schema.columns checked.branches checked.columns checked.range params
 
--- the trees of a sum's secrets are those of its plan
-pub secrets_laid : (checked : Checked) (shape : ShapeParts) (params : List ℕ) → IsCheckedFor checked shape.schema → IsQuery checked.query → AreParamsFor checked shape.schema params → (plan_of checked shape).kind ≡ kind.Sum
-    → map secret_tree (sum_secrets checked shape.schema.columns params) ≡ (plan_of checked shape).first
-secrets_laid checked shape params h q are sum =
+-- the trees of a first round's secrets are those of the plan
+pub secrets_laid : (checked : Checked) (shape : ShapeParts) (params : List ℕ) → IsCheckedFor checked shape.schema → IsQuery checked.query → AreParamsFor checked shape.schema params
+    → map secret_tree (secrets_in checked shape params first_round) ≡ (plan_of checked shape).first
+secrets_laid checked shape params h q are =
     let columns = shape.schema.columns in
     let w = last_bits columns checked.columns in
-    let same : flat_map (λ i. slot_trees kind.Sum checked.range checked.bits w) (range_with_len 0 checked.branches) ≡ (plan_of checked shape).first =
-    ap (λ (k : PlanKind). (plan_for k checked.range checked.branches checked.bits w (cell_width checked.spec) shape.rows).first) (sym sum)
-    in
-    slots_laid checked.bits checked.range w 0 (slots_of checked columns params)
-    ∙ (ap (λ n. flat_map (λ i. slot_trees kind.Sum checked.range checked.bits w) (range_with_len 0 n)) (length-slots_of checked shape.schema params h q are) ∙ same)
+    let k = kind_of checked columns in
+    slots_laid checked.bits k checked.range w 0 (slots_of checked columns params)
+    ∙ ap (λ n. flat_map (λ i. slot_trees k checked.range checked.bits w) (range_with_len 0 n)) (length-slots_of checked shape.schema params h q are)
+
+-- the secrets of a sum
+pub secrets_of_sum : (checked : Checked) (shape : ShapeParts) (params : List ℕ) → (plan_of checked shape).kind ≡ kind.Sum
+    → secrets_in checked shape params first_round ≡ flat_map (slot_secrets checked.range checked.bits) (slots_of checked shape.schema.columns params)
+secrets_of_sum checked shape params sum =
+    ap (λ k. flat_map (first_secrets k checked.range checked.bits (last_bits shape.schema.columns checked.columns)) (slots_of checked shape.schema.columns params)) sum

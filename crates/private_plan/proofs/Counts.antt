@@ -6,7 +6,7 @@ use Rattle.std.proofs.lemmas.List.{length-append}
 use Rattle.std.proofs.Math.Nat.{add-mul, zero-mul, mul-le-mul_right}
 use Rattle.spl_values.specs.Shapes.{ColumnParts}
 use Rattle.spl_values.specs.Tables.{key_bits}
-use Rattle.private_plan.specs.declared.plans.KeySpec.{KeySpec}
+use Rattle.spl_words.specs.declared.secret.KeySpec.{KeySpec}
 use Rattle.private_plan.specs.Plans.{last_bits, level_trees, for_each_slot, tree, slot_trees, second_trees, position_bits}
 use Rattle.private_plan.specs.declared.plans.PlanKind.{PlanKind}
 use Rattle.private_plan.specs.declared.plans.PlanKind.TheVariants as kind

@@ -4,7 +4,7 @@ use Rattle.std.specs.Prelude.{All, sum_by}
 use Rattle.std.specs.List.{AllByRecursion, AllZip, flat_map}
 use Rattle.std.proofs.lemmas.Bool.Decides.{nat_tests}
 use Rattle.spl_words.specs.Words.{plus}
-use Rattle.spl_words.specs.Secrets.{secret_value}
+use Rattle.spl_words.specs.Secrets.{secret_value, secrets_value}
 use Rattle.spl_values.specs.Shapes.{ColumnParts}
 use Rattle.spl_values.specs.Tables.{key_bits}
 use Rattle.interval_keys.specs.Intervals.{Span, interval_secrets, slot_value}
@@ -21,7 +21,7 @@ use Rattle.query_reader.specs.Params.{HasBits, branch_columns, times}
 use Rattle.cell_merge.specs.Rows.{Row}
 use Rattle.private_plan.proofs.Spans.{held_where, spans_fit}
 use Rattle.private_plan.specs.Branches.{RowHasBits, row_key, raised, branch_span, branch_spans}
-use Rattle.private_plan.specs.Slots.{point_secret, slot_secrets, secrets_value}
+use Rattle.private_plan.specs.Slots.{point_secret, slot_secrets}
 
 pair : (P Q : Span → Type 0) (s : Option Span) → IfSome s P → IfSome s Q → IfSome s (λ t. P t × Q t)
 pair P Q None a b = tt

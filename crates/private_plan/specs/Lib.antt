@@ -2,3 +2,4 @@ pub mod Plans
 pub mod Lengths
 pub mod Branches
 pub mod Slots
+pub mod Rounds

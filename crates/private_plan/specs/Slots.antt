@@ -1,38 +1,72 @@
 -- The slots of a query, and the secrets of their trees.
-use Rattle.std.specs.Prelude.{ℕ, ◌%◌, ◌^◌, Bool, true, false, List, [], ◌∷◌, sum_by, Option, None, Some}
-use Rattle.std.specs.List.{flat_map}
+use Rattle.std.specs.Prelude.{ℕ, zero, suc, ◌-◌, Bool, true, false, nat_lt, List, [], ◌∷◌, Option, None, Some, if◌then◌else◌}
+use Rattle.std.specs.List.{flat_map, range_with_len}
 use Rattle.spl_words.specs.declared.secret.TreeKind.TheVariants.{Point}
-use Rattle.spl_words.specs.Secrets.{Secret, secret_value}
+use Rattle.spl_words.specs.Secrets.{Secret}
 use Rattle.spl_values.specs.Shapes.{ColumnParts}
-use Rattle.interval_keys.specs.Intervals.{Span, interval_secrets}
+use Rattle.interval_keys.specs.Intervals.{Span, interval_secrets, threshold}
 use Rattle.interval_keys.specs.Slots.{slots}
+use Rattle.aligned_ranges.specs.Covers.{cover_level}
+use Rattle.aligned_ranges.specs.declared.ranges.Range.{Range}
 use Rattle.query_reader.specs.declared.checked.Checked.{Checked}
-use Rattle.private_plan.specs.declared.plans.KeySpec.{KeySpec}
 use Rattle.private_plan.specs.Branches.{branch_spans}
-use Rattle.private_plan.specs.Plans.{tree}
 
 -- the slots of a query with these parameters: what its branches allow, as disjoint intervals
 abbrev pub slots_of : Checked → List ColumnParts → List ℕ → List (Option Span)
 slots_of checked columns params = slots (branch_spans columns checked.branches checked.columns checked.range params)
 
--- the secret of a slot of one number: the word 1 there; that of an empty slot is 0 everywhere
-abbrev pub point_secret : ℕ → Option Span → Secret
-point_secret bits None = record { kind = Point; depth = bits; alpha = 0; beta = 0 }
-point_secret bits (Some s) = record { kind = Point; depth = bits; alpha = s.lo; beta = 1 }
+-- ---- the secrets of one slot
 
--- the secrets of a slot, of intervals or of single numbers
+-- the word 1 at a number
+abbrev pub point_at : ℕ → ℕ → Secret
+point_at bits x = record { kind = Point; depth = bits; alpha = x; beta = 1 }
+
+-- a point tree that is not used: 0 everywhere
+abbrev pub unused_point : ℕ → Secret
+unused_point bits = record { kind = Point; depth = bits; alpha = 0; beta = 0 }
+
+-- a slot of one number
+abbrev pub point_secret : ℕ → Option Span → Secret
+point_secret bits None = unused_point bits
+point_secret bits (Some s) = point_at bits s.lo
+
+-- a sum's slot: an interval, or a single number
 abbrev pub slot_secrets : Bool → ℕ → Option Span → List Secret
 slot_secrets true bits slot = (interval_secrets bits slot).0 ∷ (interval_secrets bits slot).1 ∷ []
 slot_secrets false bits slot = point_secret bits slot ∷ []
 
--- the secrets of a sum's trees, slot by slot
-abbrev pub sum_secrets : Checked → List ColumnParts → List ℕ → List Secret
-sum_secrets checked columns params = flat_map (slot_secrets checked.range checked.bits) (slots_of checked columns params)
+-- two keys of a level for at most two ranges, the first of them first
+abbrev pub level_secrets : ℕ → List Range → List Secret
+level_secrets bits [] = unused_point bits ∷ unused_point bits ∷ []
+level_secrets bits (r ∷ []) = point_at bits r.index ∷ unused_point bits ∷ []
+level_secrets bits (r ∷ s ∷ rs) = point_at bits r.index ∷ point_at bits s.index ∷ []
 
--- the tree of a secret
-abbrev pub secret_tree : Secret → KeySpec
-secret_tree s = tree s.kind s.depth
+-- the ranges of level j in the cover of a slot by levels below w
+abbrev pub slot_level : ℕ → Option Span → ℕ → List Range
+slot_level w None j = []
+slot_level w (Some s) j = cover_level s.lo s.hi w j
 
--- what the functions of some secrets add to at x
-abbrev pub secrets_value : List Secret → ℕ → ℕ
-secrets_value secrets x = sum_by (λ s. secret_value s x) secrets % 2 ^ 64
+-- the cover of a slot of numbers of n bits by levels below w, level by level
+abbrev pub cover_secrets : ℕ → ℕ → Option Span → List Secret
+cover_secrets n w slot = flat_map (λ j. level_secrets (n - j) (slot_level w slot j)) (range_with_len 0 w)
+
+-- the threshold that counts what is below a number; below 0 there is nothing
+abbrev pub count_below : ℕ → ℕ → Secret
+count_below bits zero = threshold bits 0 0
+count_below bits (suc n) = threshold bits n 1
+
+-- the two thresholds that count what is below a slot, and what is below or in it
+abbrev pub count_secrets : ℕ → Option Span → List Secret
+count_secrets bits None = threshold bits 0 0 ∷ threshold bits 0 0 ∷ []
+count_secrets bits (Some s) = count_below bits s.lo ∷ threshold bits s.hi 1 ∷ []
+
+-- ---- the slots of positions
+
+-- the positions from `below` on that are fewer than `upto`
+abbrev pub position_slot : ℕ → ℕ → Option Span
+position_slot below upto = if nat_lt below upto then Some (record { lo = below; hi = upto - 1 }) else None
+
+-- the slots that the counts of a first round, two for each slot, tell
+unfoldable pub position_slots : List ℕ → List (Option Span)
+position_slots (below ∷ upto ∷ counts) = position_slot below upto ∷ position_slots counts
+position_slots _ = []

@@ -1,6 +1,7 @@
 //! Laws of plans. Each function does nothing: its clauses are the laws.
 ghost use Rattle.std.specs.Prelude.{◌≡◌, ℕ, ◌/◌, ◌^◌, ◌<◌, ◌≤◌, Bool, false, List, length, map, if◌then◌else◌};
 ghost use Rattle.std.specs.List.{AllZip};
+ghost use Rattle.spl_words.specs.Secrets.{secret_tree, secrets_value};
 ghost use Rattle.spl_values.specs.Shapes.{ColumnParts, SchemaParts, ShapeParts};
 ghost use Rattle.interval_keys.specs.Slots.{EachSpan, IsSpan, allowed, held};
 ghost use Rattle.cell_merge.specs.Rows.{Row};
@@ -12,7 +13,8 @@ ghost use Rattle.query_reader.specs.Params.{AreParamsFor, HasBits, branch_column
 ghost use Rattle.private_plan.specs.Branches.{RowHasBits, row_key, branch_span, branch_spans, span_holds};
 ghost use Rattle.private_plan.specs.declared.plans.PlanKind.TheVariants as kind;
 ghost use Rattle.private_plan.specs.Plans.{last_bits, plan_of};
-ghost use Rattle.private_plan.specs.Slots.{secret_tree, secrets_value, slots_of, sum_secrets};
+ghost use Rattle.private_plan.specs.Slots.{slots_of};
+ghost use Rattle.private_plan.specs.Rounds.{first_round, secrets_in};
 
 /// The interval of a branch holds a row's joined key exactly where the branch holds of the row, and
 /// the intervals of several branches where one of these does, for codes that have no more bits than
@@ -40,15 +42,16 @@ pub fn slots_stay_in_one_value()
         → EachSpan (λ s. s.lo ≡ s.hi) (slots_of checked schema.columns params) }
 {}
 
-/// The trees of a sum's secrets are those that its plan asks for, in the same order.
-pub fn sum_secrets_lie_as_planned()
-    ensures { (checked : Checked) (shape : ShapeParts) (params : List ℕ) → IsCheckedFor checked shape.schema → IsQuery checked.query → AreParamsFor checked shape.schema params → (plan_of checked shape).kind ≡ kind.Sum
-        → map secret_tree (sum_secrets checked shape.schema.columns params) ≡ (plan_of checked shape).first }
+/// The trees of a first round's secrets are those that its plan asks for, in the same order.
+pub fn secrets_lie_as_planned()
+    ensures { (checked : Checked) (shape : ShapeParts) (params : List ℕ) → IsCheckedFor checked shape.schema → IsQuery checked.query → AreParamsFor checked shape.schema params
+        → map secret_tree (secrets_in checked shape params first_round) ≡ (plan_of checked shape).first }
 {}
 
 /// The functions of a sum's secrets add, at a row's joined key, to 1 where some branch holds of the
 /// row, and to 0 elsewhere, modulo 2^64.
 pub fn sum_secrets_tell_matching_rows()
-    ensures { (checked : Checked) (schema : SchemaParts) (params : List ℕ) (r : Row) → IsCheckedFor checked schema → IsQuery checked.query → AreParamsFor checked schema params → RowHasBits schema.columns checked.columns r
-        → secrets_value (sum_secrets checked schema.columns params) (row_key schema.columns checked.columns r) ≡ (if some_branch_holds checked.branches checked.columns checked.range params r then 1 else 0) }
+    ensures { (checked : Checked) (shape : ShapeParts) (params : List ℕ) (r : Row) → IsCheckedFor checked shape.schema → IsQuery checked.query → AreParamsFor checked shape.schema params → RowHasBits shape.schema.columns checked.columns r
+        → (plan_of checked shape).kind ≡ kind.Sum
+        → secrets_value (secrets_in checked shape params first_round) (row_key shape.schema.columns checked.columns r) ≡ (if some_branch_holds checked.branches checked.columns checked.range params r then 1 else 0) }
 {}

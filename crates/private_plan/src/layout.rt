@@ -7,12 +7,12 @@ ghost use Rattle.private_plan.specs.declared.plans.PlanKind.TheVariants as kind;
 ghost use Rattle.private_plan.specs.Plans.{is_sum as sum_test, last_bits as bits_of_last, kind_for, tree as tree_of, level_trees, slot_trees, second_trees, for_each_slot, position_bits as bits_of_positions, words_back as words_for, rounds_of, kind_of, plan_of};
 
 use crate::columns::last_bits;
-use crate::plans::{KeySpec, Plan, PlanKind, Specs};
+use crate::plans::{Plan, PlanKind, Specs};
 use cell_merge::{CellItem, width};
 use query_reader::Checked;
 use query_reader::laws::{accepted_has_cells, accepted_has_keys};
 use spl_values::Shape;
-use spl_words::TreeKind;
+use spl_words::{KeySpec, TreeKind};
 use std::alloc::{AllocError, Global};
 
 /// Whether the item's words add up.

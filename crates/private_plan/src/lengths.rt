@@ -1,33 +1,23 @@
 //! How long key frames are.
 ghost use Rattle.std.specs.Prelude.{◌≡◌, ◌≤◌, ◌+◌, ◌*◌, length, All};
 ghost use Rattle.std.specs.List.{sum_by};
-ghost use Rattle.private_plan.specs.Lengths.{key_length as length_of_key, trees_in, frame_length as length_of_frame};
+ghost use Rattle.key_frames.specs.Trees.{tree_length as length_of_tree};
+ghost use Rattle.private_plan.specs.Lengths.{trees_in, frame_length as length_of_frame};
 
-use crate::plans::{KeySpec, Plan};
-use spl_words::TreeKind;
-
-/// The bytes of a key in a frame.
-fn key_length(tree: &KeySpec) -> u64
-    requires { tree.now.depth ≤ 128 }
-    ensures { result ≡ length_of_key tree.now }
-{
-    let level = match tree.kind {
-        TreeKind::Point => 17,
-        TreeKind::Threshold => 33,
-    };
-    26 + level * u64::from(tree.depth)
-}
+use crate::plans::Plan;
+use key_frames::tree_length;
+use spl_words::KeySpec;
 
 /// The bytes of some keys in a frame.
 fn keys_length(trees: &[KeySpec]) -> u64
     requires few { length trees.now ≤ 512 }
     requires low { All (λ tree. tree.depth ≤ 128) trees.now }
-    ensures length { result ≡ sum_by length_of_key trees.now }
+    ensures length { result ≡ sum_by length_of_tree trees.now }
     ensures short { result ≤ 512 * 4250 }
 {
     let mut length = 0;
     for tree in trees {
-        length += key_length(tree);
+        length += tree_length(tree);
     }
     length
 }

@@ -12,5 +12,6 @@ mod secrets;
 pub use branches::slots;
 pub use layout::plan;
 pub use lengths::frame_length;
-pub use plans::{KeySpec, Plan, PlanKind, Specs};
+pub use plans::{Plan, PlanKind, Specs};
 pub use secrets::{SecretFault, Secrets, round_secrets};
+pub use spl_words::KeySpec;

@@ -1,7 +1,7 @@
 //! What a plan says.
 ghost use Rattle.std.specs.Prelude.{◌≡◌};
 
-use spl_words::TreeKind;
+use spl_words::KeySpec;
 use std::marker::Model;
 
 /// How a query is answered.
@@ -17,14 +17,6 @@ pub enum PlanKind {
     Position,
 }
 
-/// A tree that a round asks for.
-#[derive(Clone, Copy, Debug, PartialEq, Eq)]
-pub struct KeySpec {
-    pub kind: TreeKind,
-    /// The bits of its numbers, 1 to 128.
-    pub depth: u32,
-}
-
 /// Trees, in the order of their keys.
 #[derive(Debug, Drop)]
 pub struct Specs {
@@ -33,7 +25,7 @@ pub struct Specs {
 
 impl Model for Specs {
     ghost use Rattle.std.specs.Prelude.{List};
-    ghost use Rattle.private_plan.specs.declared.plans.KeySpec.{KeySpec};
+    ghost use Rattle.spl_words.specs.declared.secret.KeySpec.{KeySpec};
 
     ghost Value = { List KeySpec };
 

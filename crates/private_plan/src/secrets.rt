@@ -6,7 +6,8 @@ ghost use Rattle.query_reader.specs.Params.{AreParamsFor};
 ghost use Rattle.private_plan.specs.declared.plans.PlanKind.TheVariants as kind;
 ghost use Rattle.private_plan.specs.declared.secrets.SecretFault.TheVariants as fault;
 ghost use Rattle.private_plan.specs.Plans.{plan_of};
-ghost use Rattle.private_plan.specs.Slots.{point_secret as secret_of_point, slot_secrets, sum_secrets as secrets_of_sum};
+ghost use Rattle.private_plan.specs.Slots.{point_secret as secret_of_point, slot_secrets};
+ghost use Rattle.private_plan.specs.Rounds.{first_round, secrets_in};
 
 use crate::branches::slots;
 use crate::plans::Plan;
@@ -145,7 +146,7 @@ pub fn round_secrets(
     requires kind { _plan.now.kind ≡ kind.Sum }
     requires round { _round ≡ 1 }
     requires counts { _counts.now ≡ [] }
-    ensures ok { IfOk result (λ secrets. secrets ≡ secrets_of_sum checked.now shape.now.schema.columns params.now) }
+    ensures ok { IfOk result (λ secrets. secrets ≡ secrets_in checked.now shape.now params.now first_round) }
     ensures err { IfErr result (λ e. e ≡ fault.OutOfMemory) }
 {
     checked.query.facts();

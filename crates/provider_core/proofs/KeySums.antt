@@ -7,7 +7,7 @@ use Rattle.spl_words.specs.declared.provider.Provider.{Provider}
 use Rattle.seed_expansion.specs.Expanders.{Meaning}
 use Rattle.key_frames.specs.declared.keys.Key.{Key}
 use Rattle.share_eval.specs.Sums.{sum_below, share_times_word, fold_word, Gains, IsFold}
-use Rattle.session_model.specs.KeyLists.{key_share, key_shares}
+use Rattle.key_frames.specs.Trees.{key_share, key_shares}
 use Rattle.provider_core.proofs.SumsBelow.{sum_below-same, sum_below-add}
 
 -- the words of a sum of two functions are the sums of their words

@@ -20,7 +20,7 @@ use Rattle.count_sum.specs.SumPairs.{pairs_of, sum_pairs}
 use Rattle.key_frames.specs.declared.keys.Key.{Key}
 use Rattle.answer_frames.specs.Spelling.{spelling}
 use Rattle.session_model.specs.Providers.{weighted_word}
-use Rattle.session_model.specs.KeyLists.{key_shares}
+use Rattle.key_frames.specs.Trees.{key_shares}
 use Rattle.session_model.specs.Answers.{answer_words}
 use Rattle.provider_core.specs.Folds.{fold_words}
 use Rattle.provider_core.proofs.SumsBelow.{sum_below-same, sum_below-first}

@@ -2,7 +2,7 @@
 use Rattle.std.specs.Prelude.{ℕ, ◌+◌, ◌≡◌, ◌==◌, ◌&&◌, Bool, true, false, List, [], ◌∷◌, Option, None, Some, if◌then◌else◌}
 use Rattle.spl_words.specs.declared.secret.TreeKind.{TreeKind}
 use Rattle.spl_words.specs.declared.secret.TreeKind.TheVariants as tree
-use Rattle.private_plan.specs.declared.plans.KeySpec.{KeySpec}
+use Rattle.spl_words.specs.declared.secret.KeySpec.{KeySpec}
 use Rattle.key_frames.specs.declared.keys.Key.{Key}
 use Rattle.key_frames.specs.declared.keys.Key.TheVariants.{Point, Threshold}
 use Rattle.key_frames.specs.Keys.{depth}

@@ -4,7 +4,7 @@ ghost use Rattle.spl_words.specs.Results.{Gives};
 ghost use Rattle.answer_frames.specs.Spelling.{Allowed, spelling};
 ghost use Rattle.key_frames.specs.Keys.{depth};
 ghost use Rattle.session_model.specs.Answers.{answer_bytes};
-ghost use Rattle.session_model.specs.KeyLists.{key_shares};
+ghost use Rattle.key_frames.specs.Trees.{key_shares};
 ghost use Rattle.provider_core.specs.Answering.{answered};
 ghost use Rattle.provider_core.specs.Asking.{IsAsked};
 ghost use Rattle.provider_core.specs.Faults.{OwnsMemory};

@@ -3,7 +3,7 @@ ghost use Rattle.std.specs.Prelude.{◌≡◌, ◌*◌, ◌^◌, ◌<◌, ◌≤
 ghost use Rattle.spl_words.specs.Words.{plus};
 ghost use Rattle.share_eval.specs.Sums.{Gains, IsFold};
 ghost use Rattle.key_frames.specs.Keys.{depth};
-ghost use Rattle.session_model.specs.KeyLists.{key_share, key_shares};
+ghost use Rattle.key_frames.specs.Trees.{key_share, key_shares};
 
 use cell_merge::CellTable;
 use interval_keys::ThresholdEval;

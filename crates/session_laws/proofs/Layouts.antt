@@ -12,7 +12,7 @@ use Rattle.interval_keys.specs.Intervals.{Span, minus_below, threshold}
 use Rattle.seed_expansion.specs.Expanders.{Meaning}
 use Rattle.cell_merge.specs.Cells.{cell_width}
 use Rattle.query_reader.specs.declared.checked.Checked.{Checked}
-use Rattle.private_plan.specs.declared.plans.KeySpec.{KeySpec}
+use Rattle.spl_words.specs.declared.secret.KeySpec.{KeySpec}
 use Rattle.private_plan.specs.declared.plans.PlanKind.{PlanKind}
 use Rattle.private_plan.specs.declared.plans.PlanKind.TheVariants as kind
 use Rattle.private_plan.specs.Plans.{is_sum, kind_of, last_bits, plan_for, plan_of, slot_trees, tree}
@@ -20,7 +20,7 @@ use Rattle.private_plan.specs.Lengths.{trees_in}
 use Rattle.private_plan.specs.Slots.{point_secret, slot_secrets, slots_of, sum_secrets}
 use Rattle.key_frames.specs.declared.frame.KeyFrame.{KeyFrame}
 use Rattle.key_frames.specs.declared.keys.Key.{Key}
-use Rattle.session_model.specs.KeyLists.{key_of, key_list}
+use Rattle.key_frames.specs.Trees.{key_of, key_list}
 use Rattle.session_model.specs.Sessions.{key_frame, session_roots}
 use Rattle.session_model.proofs.KeyTrees.{depth_same}
 use Rattle.client_rounds.specs.Asked.{IsAsked}

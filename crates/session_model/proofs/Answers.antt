@@ -30,7 +30,7 @@ use Rattle.private_plan.specs.Branches.{row_key, branch_spans}
 use Rattle.private_plan.specs.Slots.{sum_secrets}
 use Rattle.private_plan.proofs.Spans.{row_key_below, spans_fit}
 use Rattle.private_plan.proofs.SlotSecrets.{secrets_tell, slots_fit}
-use Rattle.session_model.specs.KeyLists.{key_list, key_shares}
+use Rattle.key_frames.specs.Trees.{key_list, key_shares}
 use Rattle.session_model.specs.Answers.{answer_word}
 use Rattle.session_model.proofs.CellSums.{rows_add}
 use Rattle.session_model.proofs.Shares.{shares_add, slots_add}

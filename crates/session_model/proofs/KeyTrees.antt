@@ -5,7 +5,7 @@ use Rattle.spl_words.specs.declared.provider.Provider.{Provider}
 use Rattle.spl_words.specs.declared.provider.Provider.TheVariants.{Zero, One}
 use Rattle.spl_words.specs.declared.secret.TreeKind.{TreeKind}
 use Rattle.spl_words.specs.declared.secret.TreeKind.TheVariants.{Point, Threshold}
-use Rattle.spl_words.specs.Secrets.{Secret}
+use Rattle.spl_words.specs.Secrets.{Secret, secret_tree}
 use Rattle.seed_expansion.specs.Expanders.{Meaning}
 use Rattle.seed_expansion.proofs.Walk.{length-corrections}
 use Rattle.point_keys.specs.Points.{point_keys}
@@ -13,8 +13,7 @@ use Rattle.interval_keys.specs.Thresholds.{threshold_keys}
 use Rattle.interval_keys.proofs.ThresholdLaw.{length-levels}
 use Rattle.key_frames.specs.Keys.{depth}
 use Rattle.private_plan.specs.Plans.{tree as tree_of}
-use Rattle.private_plan.specs.Slots.{secret_tree}
-use Rattle.session_model.specs.KeyLists.{key_of, key_list, key_tree}
+use Rattle.key_frames.specs.Trees.{key_of, key_list, key_tree}
 
 -- a key has as many levels as its tree is deep
 pub depth_same : (kind : TreeKind) (e : Meaning) (p : Provider) (tree : ℕ) (s : Secret) (roots : ℕ × ℕ) → depth (key_of kind e p tree s roots) ≡ s.depth

@@ -13,7 +13,7 @@ use Rattle.point_keys.proofs.PointLaw.{point_shares_add}
 use Rattle.interval_keys.specs.Intervals.{Span, minus_below, threshold}
 use Rattle.interval_keys.proofs.ThresholdLaw.{threshold_shares_add}
 use Rattle.private_plan.specs.Slots.{point_secret, slot_secrets}
-use Rattle.session_model.specs.KeyLists.{key_of, key_list, key_share, key_shares}
+use Rattle.key_frames.specs.Trees.{key_of, key_list, key_share, key_shares}
 
 -- the shares of both providers at x add to the secret's function there, in any tree with any roots
 abbrev pub Adds : Meaning → ℕ → Secret → Type 0

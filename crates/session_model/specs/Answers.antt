@@ -14,7 +14,7 @@ use Rattle.key_frames.specs.declared.keys.Key.{Key}
 use Rattle.answer_frames.specs.declared.answer.AnswerFrame.{AnswerFrame}
 use Rattle.answer_frames.specs.Spelling.{spelling}
 use Rattle.session_model.specs.Providers.{weighted_word}
-use Rattle.session_model.specs.KeyLists.{key_shares}
+use Rattle.key_frames.specs.Trees.{key_shares}
 
 -- word k of a provider's answer to a query of counts, sums and means: the sum, over the kept rows, of its shares at the row's joined key times the row's cell
 abbrev pub answer_word : Meaning → Provider → Checked → List Key → TableParts → ℕ → ℕ

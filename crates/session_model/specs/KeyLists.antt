@@ -7,11 +7,11 @@ use Rattle.spl_words.specs.Secrets.{Secret}
 use Rattle.seed_expansion.specs.Expanders.{Meaning}
 use Rattle.point_keys.specs.Points.{point_keys, point_share}
 use Rattle.interval_keys.specs.Thresholds.{threshold_keys, threshold_share}
-use Rattle.private_plan.specs.declared.plans.KeySpec.{KeySpec}
+use Rattle.spl_words.specs.declared.secret.KeySpec.{KeySpec}
+use Rattle.spl_words.specs.Words.{own}
 use Rattle.private_plan.specs.Plans.{tree as tree_of}
 use Rattle.key_frames.specs.declared.keys.Key.{Key}
 use Rattle.key_frames.specs.declared.keys.Key.TheVariants as key
-use Rattle.session_model.specs.Providers.{own}
 
 -- a provider's key of a secret of that kind, in the tree of that number with these roots
 abbrev pub key_of : TreeKind → Meaning → Provider → ℕ → Secret → ℕ × ℕ → Key

@@ -19,7 +19,7 @@ use Rattle.key_frames.specs.declared.note.Note.{Note}
 use Rattle.key_frames.specs.Frames.{frame_body}
 use Rattle.key_frames.specs.Notes.{note_body}
 use Rattle.session_model.specs.Draws.{wide, roots_of}
-use Rattle.session_model.specs.KeyLists.{key_list}
+use Rattle.key_frames.specs.Trees.{key_list}
 use Rattle.session_model.specs.Answers.{answer_bytes}
 
 -- ---- key frames

@@ -4,7 +4,7 @@ ghost use Rattle.std.specs.List.{filter, list_all};
 ghost use Rattle.spl_words.specs.Words.{plus};
 ghost use Rattle.spl_words.specs.declared.provider.Provider.{Provider};
 ghost use Rattle.spl_words.specs.declared.provider.Provider.TheVariants.{Zero, One};
-ghost use Rattle.spl_words.specs.Secrets.{Secret};
+ghost use Rattle.spl_words.specs.Secrets.{Secret, secret_tree};
 ghost use Rattle.spl_values.specs.Tables.{TableParts, IsTable};
 ghost use Rattle.seed_expansion.specs.Expanders.{Meaning, IsPure};
 ghost use Rattle.cell_merge.specs.Rows.{Row, Apart};
@@ -17,8 +17,8 @@ ghost use Rattle.query_reader.specs.Accepted.{IsCheckedFor};
 ghost use Rattle.query_reader.specs.Matching.{matching_rows};
 ghost use Rattle.query_reader.specs.Params.{AreParamsFor};
 ghost use Rattle.private_plan.specs.Plans.{is_sum};
-ghost use Rattle.private_plan.specs.Slots.{secret_tree, sum_secrets};
-ghost use Rattle.session_model.specs.KeyLists.{key_list, key_tree};
+ghost use Rattle.private_plan.specs.Slots.{sum_secrets};
+ghost use Rattle.key_frames.specs.Trees.{key_list, key_tree};
 ghost use Rattle.session_model.specs.Answers.{answer_word};
 
 /// Where all items are counts, sums and means, the cell of the rows that pass a test is, word by word

@@ -23,7 +23,7 @@ use Rattle.cell_runs.specs.CellsBy.{cells_by, rows_at}
 use Rattle.cell_runs.proofs.Grouping.{cell_at}
 use Rattle.cell_runs.proofs.Numbers.{all_among, among_all, none_among}
 use Rattle.session_model.specs.Providers.{weighted_word}
-use Rattle.session_model.specs.KeyLists.{key_of, key_share}
+use Rattle.key_frames.specs.Trees.{key_of, key_share}
 
 -- ---- sums of products
 

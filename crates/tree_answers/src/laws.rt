@@ -11,7 +11,7 @@ ghost use Rattle.cell_merge.specs.Cells.{Addends, cell};
 ghost use Rattle.cell_merge.specs.declared.spec.CellSpec.{CellSpec};
 ghost use Rattle.cell_runs.specs.CellsBy.{cells_by, rows_at};
 ghost use Rattle.session_model.specs.Providers.{weighted_word};
-ghost use Rattle.session_model.specs.KeyLists.{key_of, key_share};
+ghost use Rattle.key_frames.specs.Trees.{key_of, key_share};
 
 /// Where both providers weigh cells by a number with their shares under their keys of one point function, their words add, modulo 2^64,
 /// to beta times the words of the cell of the rows at alpha: for every pure expander, tree and roots. So a tree with

@@ -1,9 +1,9 @@
 use Rattle.std.proofs.Common.{◌≡◌, ap, length, ◌∙◌}
 use Rattle.std.specs.Prelude.{map}
 use Rattle.spl_words.specs.declared.provider.Provider.TheVariants.{Zero, One}
+use Rattle.spl_words.specs.Secrets.{secret_tree}
 use Rattle.key_frames.specs.declared.frame.KeyFrame.{KeyFrame}
-use Rattle.private_plan.specs.Slots.{secret_tree}
-use Rattle.session_model.specs.KeyLists.{key_list, key_tree}
+use Rattle.key_frames.specs.Trees.{key_list, key_tree}
 use Rattle.session_model.proofs.KeyTrees.{trees_same}
 use Rattle.client_rounds.proofs.rounds.round_frames.Goals as goal
 

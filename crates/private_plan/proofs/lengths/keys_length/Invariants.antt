@@ -1,6 +1,6 @@
 use Rattle.std.proofs.Common.{◌≡◌, ◌≤◌, ◌*◌, take}
 use Rattle.std.specs.List.{sum_by}
-use Rattle.private_plan.specs.Lengths.{key_length as length_of_key}
+use Rattle.key_frames.specs.Trees.{tree_length as length_of_key}
 use Rattle.private_plan.proofs.lengths.keys_length.Given as goal
 
 abbrev pub invariant-loop-tree : goal.invariant-loop-tree

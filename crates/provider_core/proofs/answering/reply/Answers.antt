@@ -3,7 +3,7 @@ use Rattle.std.proofs.lemmas.List.Elements.{All-from_recursion}
 use Rattle.cell_merge.specs.Cells.{cell_width}
 use Rattle.key_frames.specs.declared.keys.Key.{Key}
 use Rattle.key_frames.specs.Keys.{depth}
-use Rattle.session_model.specs.KeyLists.{key_shares}
+use Rattle.key_frames.specs.Trees.{key_shares}
 use Rattle.provider_core.specs.Folds.{fold_words}
 use Rattle.provider_core.proofs.CellWidths.{some_words}
 use Rattle.provider_core.proofs.KeyDepths.{key_depths}

@@ -1,6 +1,6 @@
 use Rattle.std.proofs.Common.{◌≡◌, ◌∙◌, length, drop, vec_len}
 use Rattle.std.proofs.lemmas.List.{take_at}
-use Rattle.session_model.specs.KeyLists.{key_shares}
+use Rattle.key_frames.specs.Trees.{key_shares}
 use Rattle.provider_core.proofs.RowSums.{from_zeros}
 use Rattle.provider_core.proofs.answering.words_of.Goals as goal
 

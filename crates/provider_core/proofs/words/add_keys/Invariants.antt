@@ -1,6 +1,6 @@
 use Rattle.std.proofs.Common.{length, take}
 use Rattle.share_eval.specs.Sums.{Gains}
-use Rattle.session_model.specs.KeyLists.{key_shares}
+use Rattle.key_frames.specs.Trees.{key_shares}
 use Rattle.provider_core.proofs.words.add_keys.Given as goal
 
 abbrev pub invariant-loop-tree : goal.invariant-loop-tree

@@ -1,5 +1,5 @@
 use Rattle.private_plan.proofs.Accepted.{secrets_laid}
-use Rattle.private_plan.proofs.laws.sum_secrets_lie_as_planned.Goals as goal
+use Rattle.private_plan.proofs.laws.secrets_lie_as_planned.Goals as goal
 
 pub returns : goal.returns
 returns c = secrets_laid
