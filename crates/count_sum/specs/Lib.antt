@@ -1,1 +1,3 @@
 pub mod SumPairs
+pub mod KeyCells
+pub mod Positions

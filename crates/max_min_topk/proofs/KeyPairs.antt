@@ -21,7 +21,7 @@ use Rattle.cell_runs.proofs.Numbers.{all_among, among_all}
 use Rattle.keyed_rows.specs.KeyedRows.{IsKeyed, keyed, row_of, row_pair}
 use Rattle.keyed_rows.specs.declared.rows.KeyedRow.{KeyedRow}
 use Rattle.keyed_rows.proofs.Sorted.{IsOf, each_all, kept_apart, kept_are, key_fits, sorted_at, sorted_pairs, sorted_rise}
-use Rattle.max_min_topk.specs.KeyCells.{key_pairs}
+use Rattle.count_sum.specs.KeyCells.{key_pairs}
 
 pub few_bits : (checked : Checked) (t : TableParts) (bits : ℕ) (keys : List ℕ) → keys ≡ map (λ (p : ℕ × List ℕ). p.0) (key_pairs checked t) → bits ≡ key_bits t.shape.schema.columns checked.columns → IsTable t → All (λ x. x < 2 ^ bits) keys
 few_bits checked t bits keys is is-bits table =

@@ -3,7 +3,7 @@ ghost use Rattle.std.specs.Prelude.{◌≡◌, ◌*◌, ◌^◌, ◌<◌, All, l
 ghost use Rattle.std.specs.List.{flat_map};
 ghost use Rattle.cell_merge.specs.Cells.{cell_width};
 ghost use Rattle.query_reader.specs.Accepted.{IsCheckedFor};
-ghost use Rattle.max_min_topk.specs.KeyCells.{key_pairs};
+ghost use Rattle.count_sum.specs.KeyCells.{key_pairs};
 
 use cell_merge::CellTable;
 use cell_runs::merge_runs;

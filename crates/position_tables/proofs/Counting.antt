@@ -10,7 +10,7 @@ use Rattle.query_reader.specs.declared.checked.Checked.{Checked}
 use Rattle.count_sum.specs.SumPairs.{joined_key}
 use Rattle.cell_runs.specs.CellsBy.{rows_at}
 use Rattle.cell_runs.proofs.Groups.{Climbs}
-use Rattle.position_tables.specs.Positions.{comes_before, count_before}
+use Rattle.count_sum.specs.Positions.{comes_before, count_before}
 
 -- the rows' own numbers rise
 abbrev pub NumbersClimb : List Row → Type 0

@@ -20,7 +20,7 @@ use Rattle.cell_runs.proofs.Groups.{climbs, same_cells}
 use Rattle.keyed_rows.specs.KeyedRows.{IsKeyed, keyed, row_of, row_pair}
 use Rattle.keyed_rows.specs.declared.rows.KeyedRow.{KeyedRow}
 use Rattle.keyed_rows.proofs.Sorted.{kept_again, sorted_at, sorted_rise}
-use Rattle.position_tables.specs.Positions.{comes_before, count_before, position, position_pairs}
+use Rattle.count_sum.specs.Positions.{comes_before, count_before, position, position_pairs}
 use Rattle.position_tables.proofs.Counting.{NumbersClimb, counted, strictly}
 use Rattle.position_tables.proofs.Singles.{at_most_one, numbered, numbered_cells, same_single}
 

@@ -4,7 +4,7 @@ ghost use Rattle.std.specs.List.{flat_map, range_with_len};
 ghost use Rattle.cell_merge.specs.Cells.{cell_width};
 ghost use Rattle.query_reader.specs.Accepted.{IsCheckedFor};
 ghost use Rattle.query_reader.specs.Matching.{kept_rows};
-ghost use Rattle.position_tables.specs.Positions.{position_pairs};
+ghost use Rattle.count_sum.specs.Positions.{position_pairs};
 
 use cell_merge::CellTable;
 use keyed_rows::{cells_of, rows_by_key};

@@ -1,4 +1,5 @@
 pub mod Accepted
+pub mod FirstTrees
 pub mod Backwards
 pub mod Counts
 pub mod Loops

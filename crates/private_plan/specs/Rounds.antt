@@ -13,15 +13,18 @@ use Rattle.private_plan.specs.Lengths.{trees_in}
 use Rattle.private_plan.specs.Plans.{kind_of, last_bits, position_bits}
 use Rattle.private_plan.specs.Slots.{slots_of, point_secret, slot_secrets, cover_secrets, count_secrets, position_slots}
 
--- a round: its number, the number of its first tree, and the counts that the first round told, if it is the second
+-- a round: its number, and the counts that the first round told, if it is the second
 pub record Round : Type 0 where
   pub number : ℕ
-  pub first_tree : ℕ
   pub counts : List ℕ
 
 -- the first round
 abbrev pub first_round : Round
-first_round = record { number = 1; first_tree = 0; counts = [] }
+first_round = record { number = 1; counts = [] }
+
+-- the number of a round's first tree: those of the second round follow on
+abbrev pub first_tree : Plan → ℕ → ℕ
+first_tree plan round = if round == 2 then length plan.first else 0
 
 -- ---- secrets
 

@@ -1,13 +1,15 @@
 -- The answers of both providers add to the cell of the rows that match.
-use Rattle.std.proofs.Common.{◌≡◌, ℕ, ◌+◌, ◌*◌, ◌%◌, ◌^◌, ◌<◌, Bool, true, false, cond, List, [], ◌∷◌, length, refl, sym, ap, ◌∙◌, arith}
+use Rattle.std.proofs.Common.{◌≡◌, ℕ, ◌+◌, ◌*◌, ◌%◌, ◌^◌, ◌<◌, Bool, true, false, cond, List, [], ◌∷◌, ◌++◌, length, take, drop, refl, sym, ap, ap₂, ◌∙◌, arith}
 use Rattle.std.specs.Prelude.{map, slice_index, sum_by}
-use Rattle.std.specs.List.{AllByRecursion, list_all}
-use Rattle.std.proofs.Math.Nat.{add-mul}
-use Rattle.std.proofs.lemmas.Nat.{mul-mod_first}
+use Rattle.std.specs.List.{AllByRecursion, flat_map, list_all}
+use Rattle.std.proofs.lemmas.List.{append-nil, take_all}
 use Rattle.std.proofs.lemmas.List.Sums.{sum_by-cons}
 use Rattle.spl_words.specs.Words.{plus}
+use Rattle.spl_words.specs.Folds.{fold_word, fold_words}
+use Rattle.spl_words.specs.Secrets.{Secret, secrets_value}
 use Rattle.spl_words.specs.declared.provider.Provider.{Provider}
 use Rattle.spl_words.specs.declared.provider.Provider.TheVariants.{Zero, One}
+use Rattle.spl_values.specs.Shapes.{ColumnParts}
 use Rattle.spl_values.specs.Tables.{TableParts, IsTable, key_bits}
 use Rattle.cell_merge.specs.Rows.{Row}
 use Rattle.cell_merge.specs.Cells.{cell, cell_width}
@@ -16,7 +18,6 @@ use Rattle.cell_merge.proofs.Labels.{Apart-filter}
 use Rattle.cell_merge.proofs.Lists.{each-filter, length-filter-le}
 use Rattle.cell_merge.proofs.RowCells.{rows_apart}
 use Rattle.seed_expansion.specs.Expanders.{Meaning, IsPure}
-use Rattle.interval_keys.specs.Slots.{slots}
 use Rattle.query_grammar.specs.Canonical.{IsQuery}
 use Rattle.query_reader.specs.declared.checked.Checked.{Checked}
 use Rattle.query_reader.specs.Accepted.{IsCheckedFor}
@@ -24,86 +25,111 @@ use Rattle.query_reader.specs.Matching.{is_kept, kept_rows, matching_rows, some_
 use Rattle.query_reader.specs.Params.{AreParamsFor}
 use Rattle.query_reader.proofs.Known.{checked_some, checked_bits}
 use Rattle.clear_sql.proofs.MatchingCells.{length-rows_of}
-use Rattle.count_sum.specs.SumPairs.{joined_key, row_cell}
-use Rattle.private_plan.specs.Plans.{is_sum}
+use Rattle.count_sum.specs.SumPairs.{joined_key, row_cell, sum_pairs}
+use Rattle.key_frames.specs.declared.keys.Key.{Key}
+use Rattle.key_frames.specs.Trees.{key_list, key_shares}
+use Rattle.key_frames.proofs.TreeLaws.{folds_add}
+use Rattle.private_plan.specs.declared.plans.PlanKind.{PlanKind}
+use Rattle.private_plan.specs.declared.plans.PlanKind.TheVariants as kind
+use Rattle.private_plan.specs.Plans.{is_sum, kind_for, kind_of, last_bits, plan_of}
 use Rattle.private_plan.specs.Branches.{row_key, branch_spans}
-use Rattle.private_plan.specs.Slots.{sum_secrets}
+use Rattle.private_plan.specs.Slots.{slot_secrets, slots_of}
+use Rattle.private_plan.specs.Rounds.{first_round, first_tree, folds_for, folds_in, secrets_in}
+use Rattle.private_plan.proofs.Accepted.{secrets_of_sum}
 use Rattle.private_plan.proofs.Spans.{row_key_below, spans_fit}
 use Rattle.private_plan.proofs.SlotSecrets.{secrets_tell, slots_fit}
-use Rattle.key_frames.specs.Trees.{key_list, key_shares}
-use Rattle.session_model.specs.Answers.{answer_word}
+use Rattle.session_model.specs.Answers.{answer_words, words_of_fold}
 use Rattle.session_model.proofs.CellSums.{rows_add}
-use Rattle.session_model.proofs.Shares.{shares_add, slots_add}
+use Rattle.session_model.proofs.SumSecrets.{IsOf, slots_are, secrets, numbers}
 use Rattle.session_model.proofs.TableRows.{row_codes, row_key_same, each_row}
+
+-- ---- one fold
+
+-- the plan of counts, sums and means
+pub sum_kind : (checked : Checked) (table : TableParts) → list_all is_sum checked.spec.items ≡ true → (plan_of checked table.shape).kind ≡ kind.Sum
+sum_kind checked table sums = ap (λ b. kind_for b checked.range (last_bits table.shape.schema.columns checked.columns)) sums
+
+-- the words of a sum's answer are those of one fold of all keys
+pub one_fold : (e : Meaning) (p : Provider) (round : ℕ) (keys : List Key) (checked : Checked) (table : TableParts) → (plan_of checked table.shape).kind ≡ kind.Sum → round ≡ 1 → length keys ≡ length (plan_of checked table.shape).first
+    → answer_words e p round keys checked table ≡ fold_words (key_shares e p 0 keys) (sum_pairs checked table) (cell_width checked.spec)
+unfolding answer_words
+one_fold e p round keys checked table sum is same =
+    let trees = (plan_of checked table.shape).first in
+    let words = λ (ks : List Key). fold_words (key_shares e p 0 ks) (sum_pairs checked table) (cell_width checked.spec) in
+    rw is (ap (λ (k : PlanKind). flat_map (words_of_fold e p 0 keys checked table) (folds_for k 1 trees)) sum
+    ∙ (append-nil (words (take (length trees) keys)) ∙ ap words (take_all (length trees) keys (omega (arith, same)))))
+
+-- ---- sums over rows
 
 -- a sum over pairs made of rows is a sum over the rows
 over_rows : (F : ℕ × List ℕ → ℕ) (h : Row → ℕ × List ℕ) (rows : List Row) → sum_by F (map h rows) ≡ sum_by (λ r. F (h r)) rows
 over_rows F h [] = refl
 over_rows F h (r ∷ rows) = sum_by-cons F (h r) (map h rows) ∙ (ap (λ n. F (h r) + n) (over_rows F h rows) ∙ sym (sum_by-cons (λ q. F (h q)) r rows))
 
--- factors that add to another modulo 2 ^ 64 give products that do
-products : (a b v w : ℕ) → (a + b) % 2 ^ 64 ≡ v % 2 ^ 64 → (a * w + b * w) % 2 ^ 64 ≡ (v * w) % 2 ^ 64
-products a b v w e =
-    ap (λ n. n % 2 ^ 64) (sym (add-mul a b w)) ∙ (sym (mul-mod_first (a + b) w (2 ^ 64)) ∙ (ap (λ n. (n * w) % 2 ^ 64) e ∙ mul-mod_first v w (2 ^ 64)))
+same_sums : (f g : Row → ℕ) (rows : List Row) → AllByRecursion (λ r. f r ≡ g r) rows → sum_by f rows ≡ sum_by g rows
+same_sums f g [] each = refl
+same_sums f g (r ∷ rows) each = sum_by-cons f r rows ∙ (ap₂ (λ m n. m + n) each.0 (same_sums f g rows each.1) ∙ sym (sum_by-cons g r rows))
 
-parts : (a b v r s t : ℕ) → (a + b) % 2 ^ 64 ≡ v % 2 ^ 64 → (r + s) % 2 ^ 64 ≡ t % 2 ^ 64 → ((a + r) + (b + s)) % 2 ^ 64 ≡ (v + t) % 2 ^ 64
-parts a b v r s t e f = omega (arith, e, f)
+over_pairs : (P : ℕ → Type 0) (h : Row → ℕ × List ℕ) (rows : List Row) → AllByRecursion (λ r. P ((h r).0)) rows → AllByRecursion (λ (q : ℕ × List ℕ). P q.0) (map h rows)
+over_pairs P h [] each = tt
+over_pairs P h (r ∷ rows) each = (each.0, over_pairs P h rows each.1)
 
--- and so do sums of them
-sums_add : (f g v w : Row → ℕ) (rows : List Row) → AllByRecursion (λ r. (f r + g r) % 2 ^ 64 ≡ v r % 2 ^ 64) rows
-    → (sum_by (λ r. f r * w r) rows + sum_by (λ r. g r * w r) rows) % 2 ^ 64 ≡ sum_by (λ r. v r * w r) rows % 2 ^ 64
-sums_add f g v w [] each = refl
-sums_add f g v w (r ∷ rows) each =
-    let more = sums_add f g v w rows each.1 in
-    rw (sum_by-cons (λ q. f q * w q) r rows, sum_by-cons (λ q. g q * w q) r rows, sum_by-cons (λ q. v q * w q) r rows)
-    (parts (f r * w r) (g r * w r) (v r * w r) (sum_by (λ q. f q * w q) rows) (sum_by (λ q. g q * w q) rows) (sum_by (λ q. v q * w q) rows) (products (f r) (g r) (v r) (w r) each.0) more)
-
-two_words : (a b v : ℕ) → (a + b) % 2 ^ 64 ≡ v % 2 ^ 64 → plus (a % 2 ^ 64) (b % 2 ^ 64) ≡ v % 2 ^ 64
-two_words a b v e = omega (arith, e)
+-- ---- the answers
 
 module _ (e : Meaning) (pure : IsPure e) (checked : Checked) (t : TableParts) (params : List ℕ) (roots : List (ℕ × ℕ)) (valid : IsTable t)
-    (accepted : IsCheckedFor checked t.shape.schema) (form : IsQuery checked.query) (known : AreParamsFor checked t.shape.schema params) where
-  -- a provider's shares at x
-  abbrev shares : Provider → ℕ → ℕ
-  shares p x = key_shares e p 0 (key_list e p 0 (sum_secrets checked t.shape.schema.columns params) roots) x
+    (accepted : IsCheckedFor checked t.shape.schema) (form : IsQuery checked.query) (known : AreParamsFor checked t.shape.schema params) (sums : list_all is_sum checked.spec.items ≡ true) where
+  abbrev columns : List ColumnParts
+  columns = t.shape.schema.columns
 
-  -- the shares of both at a row's joined key
-  row_shares : length roots ≡ length (sum_secrets checked t.shape.schema.columns params) → (n : ℕ) → n < length t.rows
-      → (shares Zero (joined_key checked t (row_in t n)) + shares One (joined_key checked t (row_in t n))) % 2 ^ 64
-      ≡ cond (some_branch_holds checked.branches checked.columns checked.range params (row_in t n)) 1 0 % 2 ^ 64
-  row_shares same n h =
-      let columns = t.shape.schema.columns in
-      let places = checked.columns in
+  abbrev places : List ℕ
+  places = checked.columns
+
+  abbrev asked : List Secret
+  asked = secrets_in checked t.shape params first_round
+
+  asked_is : asked ≡ flat_map (slot_secrets checked.range checked.bits) (slots_of checked columns params)
+  asked_is = secrets_of_sum checked t.shape params (sum_kind checked t sums)
+
+  each_secret : AllByRecursion (IsOf checked.bits) asked
+  each_secret =
       let some = checked_some checked t.shape.schema accepted form in
-      let room = row_codes t valid places n h in
-      let key = row_key_same t valid places n h in
-      let below = row_key_below columns places (row_in t n) room in
       let bits = checked_bits checked t.shape.schema accepted in
       let fit = slots_fit (branch_spans columns checked.branches places checked.range params) (2 ^ key_bits columns places) (spans_fit columns places checked.range some checked.branches params known.below) in
-      let shares = shares_add e (row_key columns places (row_in t n)) (sum_secrets checked columns params) 0 roots same
-      (slots_add e pure checked.bits (row_key columns places (row_in t n)) (rw bits below) checked.range (slots (branch_spans columns checked.branches places checked.range params)) (rw bits fit)) in
-      let told = secrets_tell columns places checked.range some checked.bits checked.branches params (row_in t n) room known.below in
-      rw key (shares ∙ (told ∙ low (some_branch_holds checked.branches places checked.range params (row_in t n)))) where
-        low : (b : Bool) → cond {A = ℕ} b 1 0 ≡ cond b 1 0 % 2 ^ 64
-        low true = refl
-        low false = refl
+      rw asked_is (slots_are checked.bits checked.range (slots_of checked columns params) (rw bits fit))
 
-  pub answers_add : list_all is_sum checked.spec.items ≡ true → length roots ≡ length (sum_secrets checked t.shape.schema.columns params) → (k : ℕ) → k < cell_width checked.spec
-      → plus (answer_word e Zero checked (key_list e Zero 0 (sum_secrets checked t.shape.schema.columns params) roots) t k) (answer_word e One checked (key_list e One 0 (sum_secrets checked t.shape.schema.columns params) roots) t k)
-      ≡ slice_index (cell (adds_in t.shape.schema.columns) checked.spec (matching_rows checked params t)) k % 2 ^ 64
-  answers_add sums same k here =
-      let f = λ (r : Row). shares Zero (joined_key checked t r) in
-      let g = λ (r : Row). shares One (joined_key checked t r) in
+  -- a row's joined key has the key's bits
+  row_below : (n : ℕ) → n < length t.rows → joined_key checked t (row_in t n) < 2 ^ checked.bits
+  row_below n h =
+      let key = row_key_same t valid places n h in
+      let bits = checked_bits checked t.shape.schema accepted in
+      rw (key, bits) (row_key_below columns places (row_in t n) (row_codes t valid places n h))
+
+  -- what the secrets say of a row
+  row_told : (n : ℕ) → n < length t.rows → secrets_value asked (joined_key checked t (row_in t n)) ≡ cond (some_branch_holds checked.branches places checked.range params (row_in t n)) 1 0
+  row_told n h =
+      let some = checked_some checked t.shape.schema accepted form in
+      let room = row_codes t valid places n h in
+      rw (asked_is, row_key_same t valid places n h) (secrets_tell columns places checked.range some checked.bits checked.branches params (row_in t n) room known.below)
+
+  pub answers_add : length roots ≡ length asked → (k : ℕ) → k < cell_width checked.spec
+      → plus (fold_word (key_shares e Zero 0 (key_list e Zero 0 asked roots)) (sum_pairs checked t) k) (fold_word (key_shares e One 0 (key_list e One 0 asked roots)) (sum_pairs checked t) k)
+      ≡ slice_index (cell (adds_in columns) checked.spec (matching_rows checked params t)) k % 2 ^ 64
+  answers_add same k here =
       let w = λ (r : Row). slice_index (row_cell checked t r) k in
-      let m = some_branch_holds checked.branches checked.columns checked.range params in
+      let m = some_branch_holds checked.branches places checked.range params in
       let rows = kept_rows checked t in
-      let all = each_row t valid (λ r. (f r + g r) % 2 ^ 64 ≡ cond (m r) 1 0 % 2 ^ 64) (row_shares same) in
-      let kept = each-filter (λ r. (f r + g r) % 2 ^ 64 ≡ cond (m r) 1 0 % 2 ^ 64) (is_kept checked.public) (rows_of t) all in
-      let zero_is = over_rows (λ p. shares Zero p.0 * slice_index p.1 k) (λ r. (joined_key checked t r, row_cell checked t r)) rows in
-      let one_is = over_rows (λ p. shares One p.0 * slice_index p.1 k) (λ r. (joined_key checked t r, row_cell checked t r)) rows in
+      let pair : Row → ℕ × List ℕ = λ r. (joined_key checked t r, row_cell checked t r) in
+      let below = each-filter (λ r. joined_key checked t r < 2 ^ checked.bits) (is_kept checked.public) (rows_of t) (each_row t valid (λ r. joined_key checked t r < 2 ^ checked.bits) row_below) in
+      let small = over_pairs (λ x. AllByRecursion (λ (s : Secret). x < 2 ^ s.depth) asked) pair rows (all_numbers rows below) in
+      let told = each-filter (λ r. secrets_value asked (joined_key checked t r) * w r ≡ cond (m r) 1 0 * w r) (is_kept checked.public) (rows_of t)
+      (each_row t valid (λ r. secrets_value asked (joined_key checked t r) * w r ≡ cond (m r) 1 0 * w r) (λ n h. ap (λ v. v * w (row_in t n)) (row_told n h))) in
       let apart = Apart-filter (is_kept checked.public) (rows_of t) (rows_apart t) in
       let fewer = length-filter-le (is_kept checked.public) (rows_of t) in
       let count = length-rows_of t in
       let few : length rows < 2 ^ 64 = omega (arith, fewer, count, valid.count, valid.shape.few) in
-      rw (zero_is, one_is) (two_words (sum_by (λ r. f r * w r) rows) (sum_by (λ r. g r * w r) rows) (sum_by (λ r. cond (m r) 1 0 * w r) rows) (sums_add f g (λ r. cond (m r) 1 0) w rows kept))
-      ∙ rows_add (adds_in t.shape.schema.columns) checked.spec sums m rows k apart few here
+      folds_add e pure 0 asked roots (sum_pairs checked t) k same (secrets checked.bits asked each_secret) small
+      ∙ ap (λ n. n % 2 ^ 64) (over_rows (λ p. secrets_value asked p.0 * slice_index p.1 k) pair rows ∙ same_sums (λ r. secrets_value asked (joined_key checked t r) * w r) (λ r. cond (m r) 1 0 * w r) rows told)
+      ∙ rows_add (adds_in columns) checked.spec sums m rows k apart few here where
+        all_numbers : (rs : List Row) → AllByRecursion (λ r. joined_key checked t r < 2 ^ checked.bits) rs → AllByRecursion (λ r. AllByRecursion (λ (s : Secret). joined_key checked t r < 2 ^ s.depth) asked) rs
+        all_numbers [] h = tt
+        all_numbers (r ∷ rs) h = (numbers checked.bits (joined_key checked t r) asked each_secret h.0, all_numbers rs h.1)

@@ -1,5 +1,5 @@
 pub mod CellSums
-pub mod Shares
 pub mod TableRows
+pub mod SumSecrets
 pub mod Answers
-pub mod KeyTrees
+pub mod PointCells

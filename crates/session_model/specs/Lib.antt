@@ -1,5 +1,3 @@
-pub mod Providers
 pub mod Draws
-pub mod KeyLists
 pub mod Answers
 pub mod Sessions

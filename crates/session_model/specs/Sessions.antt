@@ -13,7 +13,7 @@ use Rattle.query_reader.specs.declared.checked.Checked.{Checked}
 use Rattle.query_reader.specs.Matching.{matching_rows}
 use Rattle.clear_sql.specs.Clear.{clear}
 use Rattle.clear_sql.specs.AnswerText.{answer_text}
-use Rattle.private_plan.specs.Slots.{sum_secrets}
+use Rattle.private_plan.specs.Rounds.{first_round, secrets_in}
 use Rattle.key_frames.specs.declared.frame.KeyFrame.{KeyFrame}
 use Rattle.key_frames.specs.declared.note.Note.{Note}
 use Rattle.key_frames.specs.Frames.{frame_body}
@@ -33,10 +33,10 @@ frame_of e p session round tree query shape secrets roots =
 abbrev pub session_roots : List Secret → List ℕ → List (ℕ × ℕ)
 session_roots secrets words = roots_of (length secrets) (drop 2 words)
 
--- a provider's key frame in the first round of a query of counts, sums and means, from the words that are drawn
+-- a provider's key frame in the first round of a query, from the words that are drawn
 abbrev pub key_frame : Meaning → Provider → Checked → ShapeParts → List ℕ → List ℕ → KeyFrame
 key_frame e p checked shape params words =
-    let secrets = sum_secrets checked shape.schema.columns params in
+    let secrets = secrets_in checked shape params first_round in
     frame_of e p (wide words) 1 0 (canonical_text checked.query) shape secrets (session_roots secrets words)
 
 -- its bytes

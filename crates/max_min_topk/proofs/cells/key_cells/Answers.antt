@@ -2,7 +2,7 @@ use Rattle.std.proofs.Common.{map}
 use Rattle.cell_merge.specs.Cells.{cell_width}
 use Rattle.cell_runs.specs.CellsBy.{ArePairs}
 use Rattle.keyed_rows.specs.KeyedRows.{row_pair}
-use Rattle.max_min_topk.specs.KeyCells.{key_pairs}
+use Rattle.count_sum.specs.KeyCells.{key_pairs}
 use Rattle.max_min_topk.proofs.KeyPairs.{cells_of_keys, few_bits}
 use Rattle.max_min_topk.proofs.cells.key_cells.Goals as goal
 use Rattle.max_min_topk.proofs.cells.key_cells.Goals.{After-drop-rows-2}

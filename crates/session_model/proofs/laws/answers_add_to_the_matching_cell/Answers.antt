@@ -2,5 +2,4 @@ use Rattle.session_model.proofs.Answers.{answers_add}
 use Rattle.session_model.proofs.laws.answers_add_to_the_matching_cell.Goals as goal
 
 pub returns : goal.returns
-returns c = λ e pure checked table params roots valid accepted form known sums same k here.
-    answers_add e pure checked table params roots valid accepted form known sums same k here
+returns c = answers_add

@@ -1,0 +1,106 @@
+-- The trees of a plan's first round, and of its secrets: how many there are, and how deep.
+use Rattle.std.proofs.Common.{◌≡◌, ℕ, zero, suc, ◌+◌, ◌-◌, ◌*◌, ◌<◌, ◌≤◌, Bool, true, false, List, [], ◌∷◌, ◌++◌, length, map, replicate, refl, sym, ap, subst, ◌∙◌, arith}
+use Rattle.std.specs.List.{AllByRecursion, flat_map, range_with_len}
+use Rattle.std.proofs.lemmas.List.{length-map}
+use Rattle.std.proofs.Math.Nat.{mul-le-mul_right}
+use Rattle.spl_words.specs.declared.secret.KeySpec.{KeySpec}
+use Rattle.spl_words.specs.declared.secret.TreeKind.TheVariants.{Point}
+use Rattle.spl_words.specs.Secrets.{Secret, secret_tree}
+use Rattle.spl_values.specs.Shapes.{ShapeParts, IsSchema}
+use Rattle.query_grammar.specs.Canonical.{IsQuery}
+use Rattle.query_reader.specs.declared.checked.Checked.{Checked}
+use Rattle.query_reader.specs.Accepted.{IsCheckedFor}
+use Rattle.query_reader.specs.Params.{AreParamsFor}
+use Rattle.query_reader.proofs.Known.{checked_bits, checked_some, checked_branches, checked_narrow, checked_least}
+use Rattle.private_plan.specs.declared.plans.PlanKind.{PlanKind}
+use Rattle.private_plan.specs.declared.plans.PlanKind.TheVariants as kind
+use Rattle.private_plan.specs.Plans.{kind_of, last_bits, plan_of, slot_trees, tree}
+use Rattle.private_plan.specs.Rounds.{first_round, secrets_in}
+use Rattle.private_plan.proofs.Accepted.{secrets_laid}
+use Rattle.private_plan.proofs.Counts.{last_in_key, length-levels, length-slots}
+
+-- a tree that keys can be made for
+pub record HasDepth (t : KeySpec) : Type 0 where
+  pub some : 1 ≤ t.depth
+  pub most : t.depth ≤ 128
+
+both_deep : (xs ys : List KeySpec) → AllByRecursion HasDepth xs → AllByRecursion HasDepth ys → AllByRecursion HasDepth (xs ++ ys)
+both_deep [] ys h i = i
+both_deep (x ∷ xs) ys h i = (h.0, both_deep xs ys h.1 i)
+
+module _ (n w : ℕ) (some : 1 ≤ n) (most : n ≤ 128) (inside : w ≤ n) where
+  levels_deep : (a m : ℕ) → a + m ≤ n → AllByRecursion HasDepth (flat_map (λ j. replicate 2 (tree Point (n - j))) (range_with_len a m))
+  levels_deep a zero h = tt
+  levels_deep a (suc m) h =
+      let here : HasDepth (tree Point (n - a)) = record { some = omega (arith, h); most = omega (arith, most) } in
+      (here, (here, levels_deep (a + 1) m (omega (arith, h))))
+
+  slot_deep : (k : PlanKind) (range : Bool) → AllByRecursion HasDepth (slot_trees k range n w)
+  slot_deep kind.Sum false = (record { some = some; most = most }, tt)
+  slot_deep kind.Sum true = (record { some = some; most = most }, (record { some = some; most = most }, tt))
+  slot_deep kind.Point range = (record { some = some; most = most }, tt)
+  slot_deep kind.Aligned range = levels_deep 0 w (omega (arith, inside))
+  slot_deep kind.Position range = (record { some = some; most = most }, (record { some = some; most = most }, tt))
+
+  slots_deep : (k : PlanKind) (range : Bool) (is : List ℕ) → AllByRecursion HasDepth (flat_map (λ i. slot_trees k range n w) is)
+  slots_deep k range [] = tt
+  slots_deep k range (i ∷ is) = both_deep (slot_trees k range n w) (flat_map (λ j. slot_trees k range n w) is) (slot_deep k range) (slots_deep k range is)
+
+  slot_some : (k : PlanKind) (range : Bool) → (k ≡ kind.Aligned → 1 ≤ w) → 1 ≤ length (slot_trees k range n w)
+  slot_some kind.Sum false wide = omega arith
+  slot_some kind.Sum true wide = omega arith
+  slot_some kind.Point range wide = omega arith
+  slot_some kind.Aligned range wide = let least = wide refl in omega (arith, length-levels n w, least)
+  slot_some kind.Position range wide = omega arith
+
+  slot_most : (k : PlanKind) (range : Bool) → (k ≡ kind.Aligned → w ≤ 16) → length (slot_trees k range n w) ≤ 32
+  slot_most kind.Sum false narrow = omega arith
+  slot_most kind.Sum true narrow = omega arith
+  slot_most kind.Point range narrow = omega arith
+  slot_most kind.Aligned range narrow = let least = narrow refl in omega (arith, length-levels n w, least)
+  slot_most kind.Position range narrow = omega arith
+
+times_some : (a b : ℕ) → 1 ≤ a → 1 ≤ b → 1 ≤ a * b
+times_some (suc a) (suc b) h i = omega arith
+times_some zero b h i = absurd (omega arith)
+times_some (suc a) zero h i = absurd (omega arith)
+
+times_most : (a b : ℕ) → a ≤ 8 → b ≤ 32 → a * b ≤ 256
+times_most a b h i = let one : a * b ≤ 8 * b = mul-le-mul_right b h in omega (arith, one, i)
+
+of_trees : (secrets : List Secret) → AllByRecursion HasDepth (map secret_tree secrets) → AllByRecursion (λ s. HasDepth (secret_tree s)) secrets
+of_trees [] h = tt
+of_trees (s ∷ ss) h = (h.0, of_trees ss h.1)
+
+module _ (checked : Checked) (shape : ShapeParts) (params : List ℕ) (h : IsCheckedFor checked shape.schema) (q : IsQuery checked.query) where
+  last_inside : last_bits shape.schema.columns checked.columns ≤ checked.bits
+  last_inside = let low = last_in_key shape.schema.columns checked.columns (checked_some checked shape.schema h q) in omega (arith, low, checked_bits checked shape.schema h)
+
+  abbrev secrets : List Secret
+  secrets = secrets_in checked shape params first_round
+
+  count_same : AreParamsFor checked shape.schema params → length secrets ≡ length (plan_of checked shape).first
+  count_same are = sym (length-map secrets secret_tree) ∙ ap length (secrets_laid checked shape params h q are)
+
+  -- each tree of a first round has 1 to 128 levels
+  pub secret_depths : AreParamsFor checked shape.schema params → IsSchema shape.schema → AllByRecursion (λ s. HasDepth (secret_tree s)) secrets
+  secret_depths are schema =
+      let n = checked.bits in
+      let w = last_bits shape.schema.columns checked.columns in
+      let deep = slots_deep n w (checked_least checked shape.schema h q schema) (checked_narrow checked shape.schema h) last_inside (kind_of checked shape.schema.columns) checked.range (range_with_len 0 checked.branches) in
+      of_trees secrets (subst (λ ts. AllByRecursion HasDepth ts) (sym (secrets_laid checked shape params h q are)) deep)
+
+  -- and there are 1 to 256 of them
+  pub secret_count : AreParamsFor checked shape.schema params → IsSchema shape.schema → (kind_of checked shape.schema.columns ≡ kind.Aligned → (1 ≤ last_bits shape.schema.columns checked.columns) × (last_bits shape.schema.columns checked.columns ≤ 16))
+      → (1 ≤ length secrets) × (length secrets ≤ 256)
+  secret_count are schema wide =
+      let n = checked.bits in
+      let w = last_bits shape.schema.columns checked.columns in
+      let k = kind_of checked shape.schema.columns in
+      let least = checked_least checked shape.schema h q schema in
+      let narrow = checked_narrow checked shape.schema h in
+      let branches = checked_branches checked shape.schema h in
+      let count = count_same are ∙ length-slots checked.branches (slot_trees k checked.range n w) in
+      let some = times_some checked.branches (length (slot_trees k checked.range n w)) branches.0 (slot_some n w least narrow last_inside k checked.range (λ e. (wide e).0)) in
+      let most = times_most checked.branches (length (slot_trees k checked.range n w)) branches.1 (slot_most n w least narrow last_inside k checked.range (λ e. (wide e).1)) in
+      (omega (arith, count, some), omega (arith, count, most))
