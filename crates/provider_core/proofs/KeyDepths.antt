@@ -1,18 +1,19 @@
 -- Keys that lie as the plan asks: where the first differs, and how deep all of them are.
 use Rattle.std.proofs.Common.{◌≡◌, ◌<◌, ◌≤◌, ◌+◌, ℕ, zero, suc, Bool, true, false, cond, List, [], ◌∷◌, ◌++◌, length, drop, Option, Some, None, Result, Ok, refl, sym, ap, subst, ◌∙◌, arith, get_or, slice_get, eqb, length-drop}
 use Rattle.std.specs.List.{AllByRecursion, flat_map, range_with_len}
-use Rattle.std.proofs.lemmas.Bool.{and_parts, eqb-true}
+use Rattle.std.proofs.lemmas.Bool.{and_parts, eqb-true, eqb-false}
 use Rattle.std.proofs.lemmas.List.{drop_more, drop_all, drop-drop}
 use Rattle.spl_words.specs.Results.{◌>>=◌}
 use Rattle.spl_values.specs.Tables.{TableParts}
 use Rattle.key_frames.specs.declared.frame.KeyFrame.{KeyFrame}
 use Rattle.key_frames.specs.declared.keys.Key.{Key}
+use Rattle.key_frames.specs.Frames.{FrameAllowed}
 use Rattle.key_frames.specs.Keys.{depth}
 use Rattle.query_reader.specs.declared.checked.Checked.{Checked}
 use Rattle.spl_words.specs.declared.secret.KeySpec.{KeySpec}
 use Rattle.private_plan.specs.declared.plans.PlanKind.{PlanKind}
 use Rattle.private_plan.specs.declared.plans.PlanKind.TheVariants as kind
-use Rattle.private_plan.specs.Plans.{kind_of, plan_of, slot_trees}
+use Rattle.private_plan.specs.Plans.{kind_of, plan_of, second_trees, slot_trees}
 use Rattle.private_plan.specs.Lengths.{trees_in}
 use Rattle.provider_core.specs.declared.fault.ProviderFault.{ProviderFault}
 use Rattle.provider_core.specs.Asking.{if_placed, if_sum, keys_placed}
@@ -93,6 +94,13 @@ layout_depths n i (t ∷ ts) (k ∷ ks) h each =
     let parts = and_parts (has_kind t.kind k) (eqb t.depth (depth k)) both.0 in
     (sym (eqb-true t.depth (depth k) parts.1) ∙ each.0, layout_depths n (i + 1) ts ks both.1 each.1)
 
+layout_count : (i : ℕ) (ts : List KeySpec) (ks : List Key) → layout_differs i ts ks ≡ None → length ks ≡ length ts
+unfolding layout_differs
+layout_count i [] [] h = refl
+layout_count i [] (k ∷ ks) h = absurd cc
+layout_count i (t ∷ ts) [] h = absurd cc
+layout_count i (t ∷ ts) (k ∷ ks) h = let both = both_same i (is_key_of t k) (layout_differs (i + 1) ts ks) h in ap (λ n. suc n) (layout_count (i + 1) ts ks both.1)
+
 each-append : (n : ℕ) (xs ys : List KeySpec) → AllByRecursion (λ (t : KeySpec). t.depth ≡ n) xs → AllByRecursion (λ (t : KeySpec). t.depth ≡ n) ys → AllByRecursion (λ (t : KeySpec). t.depth ≡ n) (xs ++ ys)
 each-append n [] ys h k = k
 each-append n (x ∷ xs) ys h k = (h.0, each-append n xs ys h.1 k)
@@ -137,3 +145,23 @@ module _ (table : TableParts) (checked : Checked) where
   key_depths frame h =
       let parts = only_sums (kind_of checked table.shape.schema.columns) (if_placed (layout_differs 0 (trees_in (plan_of checked table.shape) frame.round) frame.keys)) h in
       layout_depths checked.bits 0 (trees_in (plan_of checked table.shape) frame.round) frame.keys (placed_none _ parts.1) (plan_depths frame.round parts.0)
+
+  -- the keys of a sum are those of the first round
+  pub sum_placed : (frame : KeyFrame) → keys_placed table frame checked ≡ Ok tt → FrameAllowed frame
+      → ((plan_of checked table.shape).kind ≡ kind.Sum) × ((frame.round ≡ 1) × (length frame.keys ≡ length (plan_of checked table.shape).first))
+  unfolding keys_placed
+  sum_placed frame h allowed =
+      let plan = plan_of checked table.shape in
+      let parts = only_sums (kind_of checked table.shape.schema.columns) (if_placed (layout_differs 0 (trees_in plan frame.round) frame.keys)) h in
+      let count = layout_count 0 (trees_in plan frame.round) frame.keys (placed_none _ parts.1) in
+      (parts.0, by_round (eqb frame.round 2) refl count) where
+        none_asked : (slots : List ℕ) → length (flat_map (λ (i : ℕ). second_trees kind.Sum table.shape.rows) slots) ≡ 0
+        none_asked [] = refl
+        none_asked (s ∷ ss) = none_asked ss
+
+        no_second : kind_of checked table.shape.schema.columns ≡ kind.Sum → length (plan_of checked table.shape).second ≡ 0
+        no_second sums = rw sums (none_asked (range_with_len 0 checked.branches))
+
+        by_round : (b : Bool) → eqb frame.round 2 ≡ b → length frame.keys ≡ length (cond b (plan_of checked table.shape).second (plan_of checked table.shape).first) → (frame.round ≡ 1) × (length frame.keys ≡ length (plan_of checked table.shape).first)
+        by_round true is count = absurd (let sums = (only_sums (kind_of checked table.shape.schema.columns) _ h).0 in let none = no_second sums in omega (arith, count, none, allowed.count.0))
+        by_round false is count = (let other = eqb-false frame.round 2 is in omega (arith, other, allowed.round.0, allowed.round.1), count)

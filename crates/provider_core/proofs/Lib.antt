@@ -3,7 +3,6 @@ pub mod ShapeLines
 pub mod KeyDepths
 pub mod SumChecks
 pub mod CellWidths
-pub mod SumsBelow
 pub mod KeySums
 pub mod RowSums
 pub mod TableBounds

@@ -3,5 +3,4 @@ pub mod Lines
 pub mod Layouts
 pub mod Bounds
 pub mod Asking
-pub mod Folds
 pub mod Answering

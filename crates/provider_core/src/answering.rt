@@ -1,6 +1,7 @@
 //! The answer to a key frame.
-ghost use Rattle.std.specs.Prelude.{◌≡◌, ◌+◌, ◌*◌, ◌^◌, ◌<◌, ◌≤◌, All, length, replicate, vec_len, IfOk, IfErr};
+ghost use Rattle.std.specs.Prelude.{◌≡◌, ◌+◌, ◌*◌, ◌^◌, ◌<◌, ◌≤◌, ℕ, All, List, length, replicate, vec_len, IfOk, IfErr};
 ghost use Rattle.spl_words.specs.Results.{Gives};
+ghost use Rattle.spl_words.specs.Folds.{AreEntries, fold_words};
 ghost use Rattle.answer_frames.specs.Spelling.{Allowed, spelling};
 ghost use Rattle.key_frames.specs.Keys.{depth};
 ghost use Rattle.session_model.specs.Answers.{answer_bytes};
@@ -8,7 +9,6 @@ ghost use Rattle.key_frames.specs.Trees.{key_shares};
 ghost use Rattle.provider_core.specs.Answering.{answered};
 ghost use Rattle.provider_core.specs.Asking.{IsAsked};
 ghost use Rattle.provider_core.specs.Faults.{OwnsMemory};
-ghost use Rattle.provider_core.specs.Folds.{fold_words};
 ghost use Rattle.provider_core.specs.declared.fault.ProviderFault.TheVariants.{OutOfMemory};
 
 use crate::asked::{Asked, judge};
@@ -45,7 +45,9 @@ fn words_of<T: Threads + Sync, E: Expander + Sync, G: Gate + Sync>(
     requires levels { All (λ key. depth key ≤ 128) keys.now }
     requires bits { All (λ key. All (λ x. x < 2 ^ depth key) folding.now.rows.now.keys) keys.now }
     requires cells { length folding.now.rows.now.cells ≡ length folding.now.rows.now.keys * vec_len room }
-    ensures { result ≡ fold_words (key_shares (E.meaning folding.now.expander.now) folding.now.provider 0 keys.now) folding.now.rows.now.keys folding.now.rows.now.cells (vec_len room) }
+    ensures words { (entries : List (ℕ × List ℕ)) → AreEntries (vec_len room) entries folding.now.rows.now.keys folding.now.rows.now.cells
+        → result ≡ fold_words (key_shares (E.meaning folding.now.expander.now) folding.now.provider 0 keys.now) entries (vec_len room) }
+    ensures count { length result ≡ vec_len room }
 {
     let mut words = room;
     add_keys(rt, gate, folding, keys, lanes, part, &mut words);

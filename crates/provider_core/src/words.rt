@@ -1,7 +1,7 @@
 //! The words of an answer: for each key the sum over all rows of its share times the row's cell.
-ghost use Rattle.std.specs.Prelude.{◌≡◌, ◌*◌, ◌^◌, ◌<◌, ◌≤◌, ℕ, All, length, slice_index};
+ghost use Rattle.std.specs.Prelude.{◌≡◌, ◌*◌, ◌^◌, ◌<◌, ◌≤◌, ℕ, All, List, length, slice_index};
 ghost use Rattle.spl_words.specs.Words.{plus};
-ghost use Rattle.share_eval.specs.Sums.{Gains, IsFold};
+ghost use Rattle.spl_words.specs.Folds.{AreEntries, Gains, IsFold};
 ghost use Rattle.key_frames.specs.Keys.{depth};
 ghost use Rattle.key_frames.specs.Trees.{key_share, key_shares};
 
@@ -38,7 +38,8 @@ fn fold_key<T: Threads + Sync, E: Expander + Sync, G: Gate + Sync>(
     requires levels { depth key.now ≤ 128 }
     requires bits { All (λ x. x < 2 ^ depth key.now) folding.now.rows.now.keys }
     requires cells { length folding.now.rows.now.cells ≡ length folding.now.rows.now.keys * length out.old }
-    ensures { IsFold (key_share (E.meaning folding.now.expander.now) folding.now.provider tree key.now) folding.now.rows.now.keys folding.now.rows.now.cells (length out.old) out.new }
+    ensures { (entries : List (ℕ × List ℕ)) → AreEntries (length out.old) entries folding.now.rows.now.keys folding.now.rows.now.cells
+        → IsFold (key_share (E.meaning folding.now.expander.now) folding.now.provider tree key.now) entries (length out.old) out.new }
 {
     let keys = folding.rows.keys.as_slice();
     let cells = folding.rows.cells.as_slice();
@@ -85,7 +86,8 @@ pub fn add_keys<T: Threads + Sync, E: Expander + Sync, G: Gate + Sync>(
     requires levels { All (λ key. depth key ≤ 128) keys.now }
     requires bits { All (λ key. All (λ x. x < 2 ^ depth key) folding.now.rows.now.keys) keys.now }
     requires cells { length folding.now.rows.now.cells ≡ length folding.now.rows.now.keys * length words.old }
-    ensures { Gains (key_shares (E.meaning folding.now.expander.now) folding.now.provider 0 keys.now) folding.now.rows.now.keys folding.now.rows.now.cells (length words.old) words.old words.new }
+    ensures { (entries : List (ℕ × List ℕ)) → AreEntries (length words.old) entries folding.now.rows.now.keys folding.now.rows.now.cells
+        → Gains (key_shares (E.meaning folding.now.expander.now) folding.now.provider 0 keys.now) entries (length words.old) words.old words.new }
 {
     for (tree, key) in keys.iter().enumerate() {
         fold_key(rt, gate, folding, tree as u32, key, lanes, part);

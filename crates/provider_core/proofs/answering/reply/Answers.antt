@@ -1,13 +1,16 @@
-use Rattle.std.proofs.Common.{List, ◌≡◌, ◌∙◌, ap, arith, length, vec_len, get_or}
+use Rattle.std.proofs.Common.{List, ◌≡◌, ◌∙◌, sym, ap, arith, length, vec_len, get_or}
 use Rattle.std.proofs.lemmas.List.Elements.{All-from_recursion}
+use Rattle.spl_words.specs.Folds.{fold_words}
 use Rattle.cell_merge.specs.Cells.{cell_width}
+use Rattle.count_sum.specs.SumPairs.{sum_pairs}
 use Rattle.key_frames.specs.declared.keys.Key.{Key}
 use Rattle.key_frames.specs.Keys.{depth}
 use Rattle.key_frames.specs.Trees.{key_shares}
-use Rattle.provider_core.specs.Folds.{fold_words}
+use Rattle.session_model.specs.Answers.{answer_words}
+use Rattle.session_model.proofs.Answers.{one_fold}
 use Rattle.provider_core.proofs.CellWidths.{some_words}
-use Rattle.provider_core.proofs.KeyDepths.{key_depths}
-use Rattle.provider_core.proofs.RowSums.{answer_words_are, fold_length, same_spelling}
+use Rattle.provider_core.proofs.KeyDepths.{key_depths, sum_placed}
+use Rattle.provider_core.proofs.RowSums.{entries_are, same_spelling}
 use Rattle.provider_core.proofs.answering.reply.Goals as goal
 
 pub words_of-words-requires-clause-width : goal.words_of-words-requires-clause-width
@@ -33,8 +36,7 @@ bytes_of-requires-clause-allowed g c =
     let schema = c.args.table.now.shape.schema in
     let few = c.accepted_has_cells.ensures.width checked schema c.requires.asked.checked in
     let some = some_words checked.spec schema c.shape.ensures.valid.shape.schema (c.accepted_has_cells.ensures.fits checked schema c.requires.asked.checked) in
-    let share = key_shares (g.E.Expander.meaning c.args.expander.now) c.args.provider 0 c.as_slice-keys.result.now in
-    let long = fold_length share c.in_ok-rows.rows.keys c.in_ok-rows.rows.cells c.words_of-words.result (vec_len c.in_ok-words.words) (cell_width checked.spec) c.words_of-words.ensures (c.in_ok-words.ensures.len ∙ c.in_ok-rows.ensures.width) in
+    let long = c.words_of-words.ensures.count ∙ (c.in_ok-words.ensures.len ∙ c.in_ok-rows.ensures.width) in
     record {
       round = c.requires.asked.frame.allowed.round.0;
       round_end = c.requires.asked.frame.allowed.round.1;
@@ -44,24 +46,23 @@ bytes_of-requires-clause-allowed g c =
 
 pub bytes_of-requires-clause-room : goal.bytes_of-requires-clause-room
 bytes_of-requires-clause-room g c =
-    let share = key_shares (g.E.Expander.meaning c.args.expander.now) c.args.provider 0 c.as_slice-keys.result.now in
-    let long =
-    fold_length share c.in_ok-rows.rows.keys c.in_ok-rows.rows.cells c.words_of-words.result (vec_len c.in_ok-words.words) (cell_width c.args.asked.now.checked.spec) c.words_of-words.ensures
-    (c.in_ok-words.ensures.len ∙ c.in_ok-rows.ensures.width)
-    in
+    let long = c.words_of-words.ensures.count ∙ (c.in_ok-words.ensures.len ∙ c.in_ok-rows.ensures.width) in
     omega (arith, long, c.in_ok-room.ensures.len, c.in_ok-rows.ensures.width)
 
 pub returns : goal.returns
 returns g c =
     let frame = c.args.asked.now.frame in
     let checked = c.args.asked.now.checked in
+    let table = c.args.table.now in
     let e = g.E.Expander.meaning c.args.expander.now in
-    let keys = c.in_ok-rows.rows.keys in
-    let cells = c.in_ok-rows.rows.cells in
-    let words =
-    c.words_of-words.ensures ∙ ap (λ (ks : List Key). fold_words (key_shares e c.args.provider 0 ks) keys cells (vec_len c.in_ok-words.words)) c.as_slice-keys.ensures
-    ∙ ap (fold_words (key_shares e c.args.provider 0 frame.keys) keys cells) (c.in_ok-words.ensures.len ∙ c.in_ok-rows.ensures.width)
-    ∙ answer_words_are e c.args.provider checked c.args.table.now frame.keys keys cells c.in_ok-rows.ensures.keys c.in_ok-rows.ensures.cells
+    let p = c.args.provider in
+    let width : vec_len c.in_ok-words.words ≡ cell_width checked.spec = c.in_ok-words.ensures.len ∙ c.in_ok-rows.ensures.width in
+    let are = entries_are checked table c.in_ok-rows.rows.keys c.in_ok-rows.rows.cells c.in_ok-rows.ensures.keys c.in_ok-rows.ensures.cells in
+    let placed = sum_placed table checked frame c.requires.asked.placed c.requires.asked.frame.allowed in
+    let words : c.words_of-words.result ≡ answer_words e p frame.round frame.keys checked table =
+    (rw width at c.words_of-words.ensures.words) (sum_pairs checked table) are
+    ∙ (ap (λ (ks : List Key). fold_words (key_shares e p 0 ks) (sum_pairs checked table) (cell_width checked.spec)) c.as_slice-keys.ensures
+    ∙ sym (one_fold e p frame.round frame.keys checked table placed.0 placed.1.0 placed.1.1))
     in
     c.bytes_of.ensures
-    ∙ same_spelling frame.session frame.round c.args.provider c.frame_digest.result _ c.in_ok-digest.digest _ c.words_of-words.result _ c.frame_digest.ensures c.in_ok-digest.ensures words
+    ∙ same_spelling frame.session frame.round p c.frame_digest.result _ c.in_ok-digest.digest _ c.words_of-words.result _ c.frame_digest.ensures c.in_ok-digest.ensures words

@@ -4,19 +4,19 @@ use Rattle.provider_core.proofs.KeySums.{no_key, key_more, all_keys}
 use Rattle.provider_core.proofs.words.add_keys.Goals as goal
 
 pub loop-tree-init : goal.loop-tree-init
-loop-tree-init g c =
+loop-tree-init g c = λ entries are.
     let f = c.args.folding.now in
-    no_key (g.E.Expander.meaning f.expander.now) f.provider f.rows.now.keys f.rows.now.cells c.args.words.now (length c.args.words.now) (λ k. Fits-lt-pow (c.type_inv.words k))
+    no_key (g.E.Expander.meaning f.expander.now) f.provider entries c.args.words.now (length c.args.words.now) (λ k. Fits-lt-pow (c.type_inv.words k))
 
 pub loop-tree-preserved : goal.loop-tree-preserved
-loop-tree-preserved g c =
+loop-tree-preserved g c = λ entries are.
     let f = c.args.folding.now in
     let width : length c.loop-tree.part ≡ length c.args.words.now = omega (arith, c.loop-tree.auto.part, c.requires.part) in
-    key_more (g.E.Expander.meaning f.expander.now) f.provider c.args.keys.now c.loop-tree.tree c.index-keys-tree.result f.rows.now.keys f.rows.now.cells (length c.args.words.now)
-    c.args.words.now c.loop-tree.words c.fold_key.new.out c.add_words.new.words c.loop-tree-test.true c.index-keys-tree.is c.loop-tree.invariant (rw width at c.fold_key.ensures)
+    key_more (g.E.Expander.meaning f.expander.now) f.provider c.args.keys.now c.loop-tree.tree c.index-keys-tree.result entries (length c.args.words.now)
+    c.args.words.now c.loop-tree.words c.fold_key.new.out c.add_words.new.words c.loop-tree-test.true c.index-keys-tree.is (c.loop-tree.invariant entries are) ((rw width at c.fold_key.ensures) entries are)
     (λ j b. c.add_words.ensures j (omega (arith, b, c.loop-tree.auto.words)))
 
 pub returns : goal.returns
-returns g c =
+returns g c = λ entries are.
     let f = c.args.folding.now in
-    all_keys (g.E.Expander.meaning f.expander.now) f.provider c.args.keys.now c.loop-tree.tree f.rows.now.keys f.rows.now.cells (length c.args.words.now) c.args.words.now c.loop-tree.words c.loop-tree-test.false c.loop-tree.invariant
+    all_keys (g.E.Expander.meaning f.expander.now) f.provider c.args.keys.now c.loop-tree.tree entries (length c.args.words.now) c.args.words.now c.loop-tree.words c.loop-tree-test.false (c.loop-tree.invariant entries are)
