@@ -18,8 +18,9 @@ use Rattle.cell_merge.specs.Rows.{Row, code}
 use Rattle.cell_merge.specs.Entries.{before, insertion, ordered, in_order, entries_of, words_of, entry}
 use Rattle.cell_merge.specs.Cells.{addend, item_width, item_words, items_words, block, block_width, with_label, groups, cell}
 use Rattle.cell_merge.specs.TableRows.{adds_in}
-use Rattle.clear_sql.specs.Clear.{value_in, is_better, top_row, clear_item, clear_items, clear_label, clear_by, clear, SumFits, SumsFit}
+use Rattle.clear_sql.specs.Clear.{value_in, is_better, top_row, clear_item, clear_items, clear_label, clear_by, clear}
 use Rattle.clear_sql.specs.CellAnswers.{answer_by, entry_row, outcome_of, outcomes_of, results_of, label_group, groups_of, answer_of}
+use Rattle.sum_bounds.proofs.Items.{ItemBounded}
 use Rattle.cell_merge.proofs.Merging.{length-item_words, read_back}
 use Rattle.cell_merge.proofs.Labels.{length-block}
 
@@ -69,7 +70,7 @@ top_of columns k s h rows =
 not_null : (n : ℕ) (x : Outcome) → cond (eqb (suc n) 0) outcome.Null x ≡ x
 not_null n x = cond-false (eqb (suc n) 0) outcome.Null x (ne_eqb (suc n) 0 (λ e. omega arith))
 
-pub outcome_is : (columns : List ColumnParts) (i : CellItem) (rows : List Row) → SumFits columns rows i
+pub outcome_is : (columns : List ColumnParts) (i : CellItem) (rows : List Row) → ItemBounded columns rows i
     → outcome_of columns i (length rows) (item_words (adds_in columns) i rows) ≡ clear_item columns i rows
 outcome_is columns Count rows f = refl
 outcome_is columns (Sum c) [] f = refl
@@ -82,7 +83,7 @@ outcome_is columns (Min c) [] f = refl
 outcome_is columns (Min c) (r ∷ rs) f = not_null (length rs) _
 outcome_is columns (TopK k s h) rows f = ap (λ l. outcome.Top l) (top_of columns k s h rows)
 
-outcomes_are : (columns : List ColumnParts) (is : List CellItem) (rows : List Row) → AllByRecursion (SumFits columns rows) is
+outcomes_are : (columns : List ColumnParts) (is : List CellItem) (rows : List Row) → AllByRecursion (ItemBounded columns rows) is
     → outcomes_of columns is (length rows) (items_words (adds_in columns) is rows) ≡ clear_items columns is rows
 unfolding outcomes_of items_words
 outcomes_are columns [] rows f = refl
@@ -90,7 +91,7 @@ outcomes_are columns (i ∷ is) rows f =
     rw (take_at (item_words (adds_in columns) i rows) (items_words (adds_in columns) is rows) (item_width i) (length-item_words (adds_in columns) i rows), drop_at (item_words (adds_in columns) i rows) (items_words (adds_in columns) is rows) (item_width i) (length-item_words (adds_in columns) i rows))
     (ap (λ x. x ∷ outcomes_of columns is (length rows) (items_words (adds_in columns) is rows)) (outcome_is columns i rows f.0) ∙ ap (λ l. clear_item columns i rows ∷ l) (outcomes_are columns is rows f.1))
 
-results_are : (columns : List ColumnParts) (is : List CellItem) (rows : List Row) → AllByRecursion (SumFits columns rows) is
+results_are : (columns : List ColumnParts) (is : List CellItem) (rows : List Row) → AllByRecursion (ItemBounded columns rows) is
     → results_of columns is (block (adds_in columns) is rows) ≡ clear_items columns is rows
 unfolding block
 results_are columns is rows f = outcomes_are columns is rows f
@@ -105,7 +106,7 @@ sum_by-filter-le : (f : Row → ℕ) (p : Row → Bool) (rows : List Row) → su
 sum_by-filter-le f p [] = omega arith
 sum_by-filter-le f p (r ∷ rows) = sum_step (p r) f r (filter p rows) rows (sum_by-filter-le f p rows)
 
-part_fits : (columns : List ColumnParts) (rows : List Row) (p : Row → Bool) (i : CellItem) → SumFits columns rows i → SumFits columns (filter p rows) i
+part_fits : (columns : List ColumnParts) (rows : List Row) (p : Row → Bool) (i : CellItem) → ItemBounded columns rows i → ItemBounded columns (filter p rows) i
 part_fits columns rows p Count f = tt
 part_fits columns rows p (Sum c) f = let e = sum_by-filter-le (addend (adds_in columns) c) p rows in omega arith
 part_fits columns rows p (Avg c) f = let e = sum_by-filter-le (addend (adds_in columns) c) p rows in omega arith
@@ -113,12 +114,12 @@ part_fits columns rows p (Max c) f = tt
 part_fits columns rows p (Min c) f = tt
 part_fits columns rows p (TopK k s h) f = tt
 
-parts_fit : (columns : List ColumnParts) (rows : List Row) (p : Row → Bool) (is : List CellItem) → AllByRecursion (SumFits columns rows) is → AllByRecursion (SumFits columns (filter p rows)) is
+parts_fit : (columns : List ColumnParts) (rows : List Row) (p : Row → Bool) (is : List CellItem) → AllByRecursion (ItemBounded columns rows) is → AllByRecursion (ItemBounded columns (filter p rows)) is
 parts_fit columns rows p [] f = tt
 parts_fit columns rows p (i ∷ is) f = (part_fits columns rows p i f.0, parts_fit columns rows p is f.1)
 
 -- the group of one label
-one_group : (columns : List ColumnParts) (is : List CellItem) (label : ℕ) (mine : List Row) → AllByRecursion (SumFits columns mine) is
+one_group : (columns : List ColumnParts) (is : List CellItem) (label : ℕ) (mine : List Row) → AllByRecursion (ItemBounded columns mine) is
     → label_group columns is label (block (adds_in columns) is mine) ≡ clear_label columns is label mine
 unfolding block
 one_group columns is label [] f = refl
@@ -127,7 +128,7 @@ one_group columns is label (r ∷ rs) f =
     cond-false (eqb (suc (length rs)) 0) [] (make (results_of columns is (block (adds_in columns) is (r ∷ rs)))) (ne_eqb (suc (length rs)) 0 (λ e. omega arith))
     ∙ ap make (results_are columns is (r ∷ rs) f)
 
-labels_are : (columns : List ColumnParts) (is : List CellItem) (column : ℕ) (rows : List Row) → AllByRecursion (SumFits columns rows) is → (l n : ℕ)
+labels_are : (columns : List ColumnParts) (is : List CellItem) (column : ℕ) (rows : List Row) → AllByRecursion (ItemBounded columns rows) is → (l n : ℕ)
     → groups_of columns is l n (flat_map (block (adds_in columns) is) (map (with_label column rows) (range_with_len l n)))
     ≡ flat_map (λ label. clear_label columns is label (with_label column rows label)) (range_with_len l n)
 unfolding groups_of
@@ -140,13 +141,13 @@ labels_are columns is column rows f l (suc n) =
     (ap (λ g. g ++ groups_of columns is (l + 1) n rest) (one_group columns is l mine fits)
     ∙ ap (λ g. clear_label columns is l mine ++ g) (labels_are columns is column rows f (l + 1) n))
 
-by_group : (columns : List ColumnParts) (spec : CellSpec) (g : Option ℕ) (rows : List Row) → AllByRecursion (SumFits columns rows) spec.items
+by_group : (columns : List ColumnParts) (spec : CellSpec) (g : Option ℕ) (rows : List Row) → AllByRecursion (ItemBounded columns rows) spec.items
     → answer_by columns spec g (flat_map (block (adds_in columns) spec.items) (groups g spec.labels rows)) ≡ clear_by columns spec g rows
 by_group columns spec None rows f =
     let make : List Outcome → List Group = λ l. record { label = None; results = l } ∷ [] in
     rw (append-nil (block (adds_in columns) spec.items rows)) (ap make (results_are columns spec.items rows f))
 by_group columns spec (Some column) rows f = labels_are columns spec.items column rows f 0 spec.labels
 
-pub cell_clear : (columns : List ColumnParts) (spec : CellSpec) (rows : List Row) (keeps : Row → Bool) → SumsFit columns spec.items rows
+pub cell_clear : (columns : List ColumnParts) (spec : CellSpec) (rows : List Row) (keeps : Row → Bool) → AllByRecursion (ItemBounded columns rows) spec.items
     → answer_of columns spec (cell (adds_in columns) spec (filter keeps rows)) ≡ clear columns spec (filter keeps rows)
-cell_clear columns spec rows keeps f = by_group columns spec spec.group (filter keeps rows) (parts_fit columns rows keeps spec.items f.each)
+cell_clear columns spec rows keeps f = by_group columns spec spec.group (filter keeps rows) (parts_fit columns rows keeps spec.items f)

@@ -4,7 +4,6 @@ pub mod Printable
 pub mod Lines
 pub mod GoodCells
 pub mod MatchingCells
-pub mod TableSums
 pub mod Branches
 pub mod Orders
 pub mod Meaning

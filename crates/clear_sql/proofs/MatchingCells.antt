@@ -1,8 +1,9 @@
 -- The cell of the rows that match, row by row.
-use Rattle.std.proofs.Common.{◌≡◌, ℕ, zero, suc, ◌+◌, ◌<◌, ◌≤◌, ◌^◌, Bool, true, false, ◌&&◌, cond, List, [], ◌∷◌, ◌++◌, length, map, take, get_or, All, refl, sym, ap, subst, ◌∙◌, arith}
-use Rattle.std.specs.List.{filter, range_with_len}
-use Rattle.std.proofs.lemmas.List.{append-nil, take_more, take_all, length-take, length-map}
+use Rattle.std.proofs.Common.{◌≡◌, ℕ, zero, suc, ◌+◌, ◌<◌, ◌≤◌, ◌^◌, Bool, true, false, ◌&&◌, cond, Ok, List, [], ◌∷◌, ◌++◌, length, take, get_or, All, refl, sym, ap, subst, ◌∙◌, arith}
+use Rattle.std.specs.List.{filter}
+use Rattle.std.proofs.lemmas.List.{append-nil, take_more, take_all, length-take}
 use Rattle.std.proofs.lemmas.List.Elements.{filter-append}
+use Rattle.std.proofs.lemmas.List.FromFn.{get_or-map-range_with_len, length-map-range_with_len}
 use Rattle.spl_values.specs.Tables.{TableParts, IsTable}
 use Rattle.cell_merge.specs.declared.spec.CellSpec.{CellSpec}
 use Rattle.cell_merge.specs.Rows.{Row, Apart}
@@ -16,8 +17,10 @@ use Rattle.query_reader.specs.declared.checked.Checked.{Checked}
 use Rattle.query_reader.specs.Accepted.{IsCheckedFor}
 use Rattle.query_reader.specs.Matching.{is_kept, some_branch_holds, matching_rows}
 use Rattle.query_reader.proofs.Known.{checked_fits}
+use Rattle.sum_bounds.specs.Bounds.{sums_bounded}
+use Rattle.sum_bounds.proofs.Items.{each_bounded}
 use Rattle.clear_sql.specs.AnswerText.{GroupFits}
-use Rattle.clear_sql.specs.Clear.{SumsFit, clear}
+use Rattle.clear_sql.specs.Clear.{clear}
 use Rattle.clear_sql.specs.FirstRows.{first_matching}
 use Rattle.clear_sql.specs.CellAnswers.{BlocksRead, answer_of}
 use Rattle.clear_sql.proofs.Clear.{cell_clear}
@@ -45,31 +48,14 @@ row_matches checked params r = is_kept checked.public r && some_branch_holds che
 pub matching_once : (checked : Checked) (params : List ℕ) (t : TableParts) → matching_rows checked params t ≡ filter (row_matches checked params) (rows_of t)
 matching_once checked params t = filter_filter (is_kept checked.public) (some_branch_holds checked.branches checked.columns checked.range params) (rows_of t)
 
-length-range : (l n : ℕ) → length (range_with_len l n) ≡ n
-length-range l zero = refl
-length-range l (suc n) = ap suc (length-range (l + 1) n)
-
-at-range : (l n i d : ℕ) → i < n → get_or (range_with_len l n) i d ≡ l + i
-at-range l zero i d h = absurd (omega arith)
-at-range l (suc n) zero d h = omega arith
-at-range l (suc n) (suc i) d h = let e = at-range (l + 1) n i d (omega arith) in omega (arith, e)
-
-at-map : {A B : Type 0} (f : A → B) (xs : List A) (i : ℕ) (d : A) (e : B) → i < length xs → get_or (map f xs) i e ≡ f (get_or xs i d)
-at-map f [] i d e h = absurd (omega arith)
-at-map f (x ∷ xs) zero d e h = refl
-at-map f (x ∷ xs) (suc i) d e h = at-map f xs i d e (omega arith)
-
 pub length-rows_of : (t : TableParts) → length (rows_of t) ≡ length t.rows
-length-rows_of t = length-map (range_with_len 0 (length t.rows)) (row_in t) ∙ length-range 0 (length t.rows)
+length-rows_of t = length-map-range_with_len (row_in t) 0 (length t.rows)
 
 no_row : Row
 no_row = record { number = 0; codes = [] }
 
 row-at : (t : TableParts) (n : ℕ) → n < length t.rows → get_or (rows_of t) n no_row ≡ row_in t n
-row-at t n h =
-    let count = length-range 0 (length t.rows) in
-    at-map (row_in t) (range_with_len 0 (length t.rows)) n 0 no_row (omega (arith, count))
-    ∙ ap (row_in t) (at-range 0 (length t.rows) n 0 h ∙ omega arith)
+row-at t n h = get_or-map-range_with_len (row_in t) 0 (length t.rows) n n no_row h (omega arith)
 
 -- the cell of the matching rows up to a row
 abbrev pub cell_to : (adds : Addends) (spec : CellSpec) (keeps : Row → Bool) (t : TableParts) → ℕ → List ℕ
@@ -147,12 +133,12 @@ pub matching_read : (checked : Checked) (params : List ℕ) (t : TableParts) →
 matching_read checked params t table h =
     rw (matching_once checked params t) (cells_read t checked.spec (adds_in t.shape.schema.columns) (row_matches checked params) table (checked_fits checked t.shape.schema h))
 
-pub matching_clear : (checked : Checked) (params : List ℕ) (t : TableParts) → SumsFit t.shape.schema.columns checked.spec.items (rows_of t)
+pub matching_clear : (checked : Checked) (params : List ℕ) (t : TableParts) → sums_bounded t checked.spec.items ≡ Ok tt
     → answer_of t.shape.schema.columns checked.spec (cell (adds_in t.shape.schema.columns) checked.spec (matching_rows checked params t)) ≡ clear t.shape.schema.columns checked.spec (matching_rows checked params t)
 matching_clear checked params t sums =
-    rw (matching_once checked params t) (cell_clear t.shape.schema.columns checked.spec (rows_of t) (row_matches checked params) sums)
+    rw (matching_once checked params t) (cell_clear t.shape.schema.columns checked.spec (rows_of t) (row_matches checked params) (each_bounded t checked.spec.items sums))
 
-pub clear_printable : (checked : Checked) (params : List ℕ) (t : TableParts) → IsTable t → IsCheckedFor checked t.shape.schema → SumsFit t.shape.schema.columns checked.spec.items (rows_of t)
+pub clear_printable : (checked : Checked) (params : List ℕ) (t : TableParts) → IsTable t → IsCheckedFor checked t.shape.schema → sums_bounded t checked.spec.items ≡ Ok tt
     → All (GroupFits t.shape.schema.columns checked.spec) (clear t.shape.schema.columns checked.spec (matching_rows checked params t))
 clear_printable checked params t table h sums =
     let columns = t.shape.schema.columns in

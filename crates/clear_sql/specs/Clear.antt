@@ -1,6 +1,6 @@
 -- The clear answer of a query over the rows that match it.
-use Rattle.std.specs.Prelude.{ℕ, ◌^◌, ◌<◌, Bool, nat_lt, ◌==◌, ◌&&◌, ◌||◌, List, [], ◌∷◌, length, map, take, Option, None, Some}
-use Rattle.std.specs.List.{sum_by, flat_map, range_with_len, AllByRecursion}
+use Rattle.std.specs.Prelude.{ℕ, Bool, nat_lt, ◌==◌, ◌&&◌, ◌||◌, List, [], ◌∷◌, length, map, take, Option, None, Some}
+use Rattle.std.specs.List.{sum_by, flat_map, range_with_len}
 use Rattle.spl_values.specs.Codes.{value_with}
 use Rattle.spl_values.specs.Shapes.{ColumnParts}
 use Rattle.spl_values.specs.declared.values.Value.{Value}
@@ -58,13 +58,3 @@ clear_by columns spec (Some column) rows = flat_map (λ label. clear_label colum
 -- the clear answer over the rows that match
 abbrev pub clear : List ColumnParts → CellSpec → List Row → List Group
 clear columns spec rows = clear_by columns spec spec.group rows
-
--- the exact sum of the item's column over all rows is below 2 ^ 64
-abbrev pub SumFits : List ColumnParts → List Row → CellItem → Type 0
-SumFits columns rows (Sum c) = sum_by (addend (adds_in columns) c) rows < 2 ^ 64
-SumFits columns rows (Avg c) = sum_by (addend (adds_in columns) c) rows < 2 ^ 64
-SumFits columns rows _ = Unit {0}
-
--- each sum is within its bounds
-pub record SumsFit (columns : List ColumnParts) (items : List CellItem) (rows : List Row) : Type 0 where
-  pub each : AllByRecursion (SumFits columns rows) items

@@ -1,12 +1,13 @@
 //! The clear answer of a query over a table.
-ghost use Rattle.std.specs.Prelude.{◌≡◌, ◌+◌, ◌<◌, ◌&&◌, All, length, replicate, IfOk};
+ghost use Rattle.std.specs.Prelude.{◌≡◌, ◌+◌, ◌<◌, ◌&&◌, All, length, replicate, IfOk, Ok};
 ghost use Rattle.cell_merge.specs.Cells.{cell, cell_width};
-ghost use Rattle.cell_merge.specs.TableRows.{adds_in, row_in, rows_of};
+ghost use Rattle.cell_merge.specs.TableRows.{adds_in, row_in};
 ghost use Rattle.query_reader.specs.Accepted.{IsCheckedFor};
 ghost use Rattle.query_reader.specs.Matching.{is_kept as kept_test, matching_rows, some_branch_holds as branches_test};
 ghost use Rattle.query_reader.specs.Params.{AreParamsFor};
+ghost use Rattle.sum_bounds.specs.Bounds.{sums_bounded};
 ghost use Rattle.clear_sql.specs.AnswerText.{GroupFits};
-ghost use Rattle.clear_sql.specs.Clear.{SumsFit, clear};
+ghost use Rattle.clear_sql.specs.Clear.{clear};
 ghost use Rattle.clear_sql.specs.FirstRows.{first_matching};
 ghost use Rattle.clear_sql.specs.Meaning.{IsGroupOver};
 
@@ -101,7 +102,7 @@ fn answer_over(
 ) -> Result<Answer, AllocError>
     requires checked { IsCheckedFor checked.now table.now.shape.schema }
     requires params { AreParamsFor checked.now table.now.shape.schema params.now }
-    requires sums { SumsFit table.now.shape.schema.columns checked.now.spec.items (rows_of table.now) }
+    requires sums { sums_bounded table.now checked.now.spec.items ≡ Ok tt }
     ensures { IfOk result (λ answer. answer.groups ≡ clear table.now.shape.schema.columns checked.now.spec (matching_rows checked.now params.now table.now)) }
 {
     query_laws::accepted_has_cells();
@@ -126,7 +127,7 @@ pub fn clear_answer(
     requires checked { IsCheckedFor checked.now table.now.shape.schema }
     requires params { AreParamsFor checked.now table.now.shape.schema params.now }
     // The exact sum of each column under SUM or AVG, over all rows, is below 2^64.
-    requires sums { SumsFit table.now.shape.schema.columns checked.now.spec.items (rows_of table.now) }
+    requires sums { sums_bounded table.now checked.now.spec.items ≡ Ok tt }
     ensures clear { IfOk result (λ answer. answer.groups ≡ clear table.now.shape.schema.columns checked.now.spec (matching_rows checked.now params.now table.now)) }
     ensures printable { IfOk result (λ answer. All (GroupFits table.now.shape.schema.columns checked.now.spec) answer.groups) }
     // Each outcome is what its item means over the rows of its group.

@@ -1,28 +1,21 @@
 //! Laws of answers. Each function does nothing: its clauses are the laws.
-ghost use Rattle.std.specs.Prelude.{◌≡◌, ℕ, All, Bool, List, length};
-ghost use Rattle.std.specs.List.{filter};
+ghost use Rattle.std.specs.Prelude.{◌≡◌, ℕ, All, List, Ok, length};
 ghost use Rattle.spl_values.specs.Shapes.{ColumnParts};
 ghost use Rattle.spl_values.specs.Tables.{TableParts, IsTable};
 ghost use Rattle.cell_merge.specs.declared.spec.CellItem.{CellItem};
 ghost use Rattle.cell_merge.specs.declared.spec.CellSpec.{CellSpec};
 ghost use Rattle.cell_merge.specs.Rows.{Row};
 ghost use Rattle.cell_merge.specs.Cells.{blocks, cell, cell_width};
-ghost use Rattle.cell_merge.specs.TableRows.{SpecFits, adds_in, rows_of};
+ghost use Rattle.cell_merge.specs.TableRows.{SpecFits, adds_in};
 ghost use Rattle.query_reader.specs.declared.checked.Checked.{Checked as TheChecked};
 ghost use Rattle.query_reader.specs.Accepted.{IsCheckedFor};
 ghost use Rattle.query_reader.specs.Matching.{matching_rows};
+ghost use Rattle.sum_bounds.specs.Bounds.{sums_bounded};
 ghost use Rattle.clear_sql.specs.declared.answer.Outcome.{Outcome};
-ghost use Rattle.clear_sql.specs.Clear.{SumsFit, clear, clear_item};
+ghost use Rattle.clear_sql.specs.Clear.{clear, clear_item};
 ghost use Rattle.clear_sql.specs.AnswerText.{GroupFits};
 ghost use Rattle.clear_sql.specs.Meaning.{IsGroupOver, IsOutcome, RowsRise};
 ghost use Rattle.clear_sql.specs.CellAnswers.{BlocksRead, answer_of};
-
-/// Where the sums over all rows are within their bounds, the cell of those rows that pass a test stands for the clear
-/// answer over them.
-pub fn cells_stand_for_clear_answers()
-    ensures { (columns : List ColumnParts) (spec : CellSpec) (rows : List Row) (keeps : Row → Bool) → SumsFit columns spec.items rows
-        → answer_of columns spec (cell (adds_in columns) spec (filter keeps rows)) ≡ clear columns spec (filter keeps rows) }
-{}
 
 /// The answer that a cell stands for can be printed.
 pub fn answers_of_cells_can_be_printed()
@@ -30,18 +23,12 @@ pub fn answers_of_cells_can_be_printed()
         → All (GroupFits columns spec) (answer_of columns spec cell) }
 {}
 
-/// The cell of those rows of a table that pass a test can be read.
-pub fn cells_of_rows_can_be_read()
-    ensures { (table : TableParts) (spec : CellSpec) (keeps : Row → Bool) → IsTable table → SpecFits spec table.shape.schema.columns
-        → BlocksRead table.shape.schema.columns spec.items (blocks spec.group spec.labels) (cell (adds_in table.shape.schema.columns) spec (filter keeps (rows_of table))) }
-{}
-
 /// The cell of the rows that match an accepted query can be read, and where the sums over all rows are within their bounds
 /// it stands for the query's clear answer.
 pub fn matching_cells_stand_for_clear_answers()
     ensures read { (checked : TheChecked) (params : List ℕ) (table : TableParts) → IsTable table → IsCheckedFor checked table.shape.schema
         → BlocksRead table.shape.schema.columns checked.spec.items (blocks checked.spec.group checked.spec.labels) (cell (adds_in table.shape.schema.columns) checked.spec (matching_rows checked params table)) }
-    ensures clear { (checked : TheChecked) (params : List ℕ) (table : TableParts) → SumsFit table.shape.schema.columns checked.spec.items (rows_of table)
+    ensures clear { (checked : TheChecked) (params : List ℕ) (table : TableParts) → sums_bounded table checked.spec.items ≡ Ok tt
         → answer_of table.shape.schema.columns checked.spec (cell (adds_in table.shape.schema.columns) checked.spec (matching_rows checked params table)) ≡ clear table.shape.schema.columns checked.spec (matching_rows checked params table) }
 {}
 

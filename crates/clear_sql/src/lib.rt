@@ -9,13 +9,9 @@ mod matching;
 mod printing;
 mod queries;
 mod reading;
-mod sums;
-mod texts;
 
 pub use answer::{Answer, Group, Groups, Outcome, Outcomes, TopRow, TopRows};
 pub use clear_answers::clear_answer;
 pub use printing::answer_text;
 pub use queries::{answer_of_cell, print_answer};
 pub use reading::cell_answer;
-pub use sums::sums_fit;
-pub use texts::cell_text;
