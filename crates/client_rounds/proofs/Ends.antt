@@ -31,7 +31,8 @@ use Rattle.query_reader.proofs.Known.{checked_fits, checked_width}
 use Rattle.judged_queries.specs.Queries.{checked_in}
 use Rattle.judged_queries.specs.Codes.{codes_in, codes_from}
 use Rattle.judged_queries.proofs.TakenCodes.{words_are_codes}
-use Rattle.clear_sql.specs.Clear.{SumsFit, clear}
+use Rattle.sum_bounds.specs.Bounds.{sums_bounded}
+use Rattle.clear_sql.specs.Clear.{clear}
 use Rattle.clear_sql.proofs.MatchingCells.{matching_clear, length-rows_of}
 use Rattle.count_sum.specs.SumPairs.{sum_pairs}
 use Rattle.private_plan.specs.declared.plans.PlanKind.TheVariants as kind
@@ -138,7 +139,7 @@ note_made e checked table params drawn texts valid form accepted given are =
 
 module _ (e : Meaning) (pure : IsPure e) (checked : Checked) (table : TableParts) (params drawn : List ℕ) (texts : List (List ℕ)) (valid : IsTable table) (form : IsWellFormed checked.query)
     (accepted : IsCheckedFor checked table.shape.schema) (sums : list_all is_sum checked.spec.items ≡ true) (given : params_of_words checked.query table.shape.schema texts ≡ Ok params)
-    (bounds : SumsFit table.shape.schema.columns checked.spec.items (rows_of table)) (spelled : NoteOf (note_bytes e checked table.shape params drawn) (note e checked table.shape params drawn)) (canonical : checked_in table.shape.schema (canonical_text checked.query) ≡ Ok checked) where
+    (bounds : sums_bounded table checked.spec.items ≡ Ok tt) (spelled : NoteOf (note_bytes e checked table.shape params drawn) (note e checked table.shape params drawn)) (canonical : checked_in table.shape.schema (canonical_text checked.query) ≡ Ok checked) where
   known : AreParamsFor checked table.shape.schema params
   known = answered_known checked table.shape.schema texts (Ok params) form.form valid.shape.schema given accepted
 

@@ -14,7 +14,7 @@ ghost use Rattle.query_tokens.specs.Printing.{canonical_text, IsWellFormed};
 ghost use Rattle.query_reader.specs.declared.checked.Checked.{Checked as TheChecked};
 ghost use Rattle.query_reader.specs.Accepted.{IsAccepted, IsCheckedFor};
 ghost use Rattle.query_reader.specs.Params.{params_of_words, TakesCodes};
-ghost use Rattle.clear_sql.specs.Clear.{SumsFit};
+ghost use Rattle.sum_bounds.specs.Bounds.{sums_bounded};
 ghost use Rattle.key_frames.specs.Frames.{FrameAllowed, KeyFrameOf};
 ghost use Rattle.key_frames.specs.Notes.{NoteAllowed, NoteOf};
 ghost use Rattle.key_frames.specs.declared.note.Note.{Note};
@@ -103,10 +103,10 @@ pub fn answers_are_spelled()
 /// provider answers to its key frame over that table come to the text of the clear answer, in either order.
 pub fn sessions_end_with_the_clear_answer()
     ensures in_order { (e : Meaning) → IsPure e → (checked : TheChecked) (table : TableParts) (params drawn : List ℕ) (texts : List (List ℕ)) → IsTable table → IsWellFormed checked.query → IsCheckedFor checked table.shape.schema
-        → list_all is_sum checked.spec.items ≡ true → params_of_words checked.query table.shape.schema texts ≡ Ok params → SumsFit table.shape.schema.columns checked.spec.items (rows_of table) → AllByRecursion (λ w. w < 2 ^ 64) drawn
+        → list_all is_sum checked.spec.items ≡ true → params_of_words checked.query table.shape.schema texts ≡ Ok params → sums_bounded table checked.spec.items ≡ Ok tt → AllByRecursion (λ w. w < 2 ^ 64) drawn
         → finished (note_bytes e checked table.shape params drawn) (round_answer e Zero checked table params drawn) (round_answer e One checked table params drawn) ≡ Ok (clear_text checked params table) }
     ensures exchanged { (e : Meaning) → IsPure e → (checked : TheChecked) (table : TableParts) (params drawn : List ℕ) (texts : List (List ℕ)) → IsTable table → IsWellFormed checked.query → IsCheckedFor checked table.shape.schema
-        → list_all is_sum checked.spec.items ≡ true → params_of_words checked.query table.shape.schema texts ≡ Ok params → SumsFit table.shape.schema.columns checked.spec.items (rows_of table) → AllByRecursion (λ w. w < 2 ^ 64) drawn
+        → list_all is_sum checked.spec.items ≡ true → params_of_words checked.query table.shape.schema texts ≡ Ok params → sums_bounded table checked.spec.items ≡ Ok tt → AllByRecursion (λ w. w < 2 ^ 64) drawn
         → finished (note_bytes e checked table.shape params drawn) (round_answer e One checked table params drawn) (round_answer e Zero checked table params drawn) ≡ Ok (clear_text checked params table) }
 {
     canonical_text_is_accepted();

@@ -19,10 +19,11 @@ use Rattle.private_plan.specs.Plans.{kind_of, plan_of}
 use Rattle.private_plan.specs.Lengths.{trees_in}
 use Rattle.private_plan.specs.declared.plans.PlanKind.{PlanKind}
 use Rattle.private_plan.specs.declared.plans.PlanKind.TheVariants as kind
+use Rattle.sum_bounds.specs.Bounds.{sums_bounded}
+use Rattle.sum_bounds.specs.declared.SumFault.{SumFault}
 use Rattle.provider_core.specs.declared.fault.ProviderFault.{ProviderFault}
 use Rattle.provider_core.specs.declared.fault.ProviderFault.TheVariants as fault
 use Rattle.provider_core.specs.declared.asked.Asked.{Asked}
-use Rattle.provider_core.specs.Bounds.{sums_bounded}
 use Rattle.provider_core.specs.Layouts.{layout_differs}
 use Rattle.provider_core.specs.Lines.{first_line}
 
@@ -57,6 +58,11 @@ abbrev pub if_placed : Option ℕ → Result (Unit {0}) ProviderFault
 if_placed None = Ok tt
 if_placed (Some i) = Err (fault.WrongLayout i)
 
+-- sums within their bounds, or the first that isn't
+abbrev pub or_sum_fault : Result (Unit {0}) SumFault → Result (Unit {0}) ProviderFault
+or_sum_fault (Ok x) = Ok x
+or_sum_fault (Err e) = Err (fault.SumBound e.column e.at)
+
 -- the keys of a frame are those that the plan of its query asks for; a round that the plan doesn't have has no trees, so its first key is one too many
 unfoldable pub keys_placed : TableParts → KeyFrame → Checked → Result (Unit {0}) ProviderFault
 keys_placed table frame checked = do
@@ -76,7 +82,7 @@ unfoldable pub query_in : TableParts → KeyFrame → Result Checked ProviderFau
 query_in table frame = do
   checked ← or_query_fault (checked_in table.shape.schema frame.query)
   placed ← keys_placed table frame checked
-  bounded ← sums_bounded table.rows checked.spec.items
+  bounded ← or_sum_fault (sums_bounded table checked.spec.items)
   Ok checked
 
 -- what bytes ask of a provider over its table, or the first refusal

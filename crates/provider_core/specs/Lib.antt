@@ -1,6 +1,5 @@
 pub mod Faults
 pub mod Lines
 pub mod Layouts
-pub mod Bounds
 pub mod Asking
 pub mod Answering

@@ -8,12 +8,11 @@ ghost use Rattle.key_frames.specs.Frames.{FrameAllowed, KeyFrameOf};
 ghost use Rattle.key_frames.specs.Texts.{is_bad};
 ghost use Rattle.judged_queries.specs.Queries.{checked_in};
 ghost use Rattle.query_reader.specs.Accepted.{IsCheckedFor};
-ghost use Rattle.provider_core.specs.Asking.{asked_in, frame_in, if_own, keys_placed, or_no_frame, or_query_fault, query_in, IsAsked};
-ghost use Rattle.provider_core.specs.Bounds.{sums_bounded};
+ghost use Rattle.sum_bounds.specs.Bounds.{sums_bounded};
+ghost use Rattle.provider_core.specs.Asking.{asked_in, frame_in, if_own, keys_placed, or_no_frame, or_query_fault, or_sum_fault, query_in, IsAsked};
 ghost use Rattle.provider_core.specs.Faults.{OwnsMemory};
 ghost use Rattle.provider_core.specs.declared.fault.ProviderFault.TheVariants.{OutOfMemory};
 
-use crate::bounds::check_sums;
 use crate::fault::ProviderFault;
 use crate::layout::{check_kind, check_layout};
 use crate::shapes::check_shape;
@@ -25,6 +24,7 @@ use query_reader::{Checked, QueryFault};
 use spl_values::{Schema, Table};
 use spl_words::{FrameFault, Provider};
 use std::alloc::Global;
+use sum_bounds::check_sums;
 
 /// A frame that nothing refuses, and its query.
 #[derive(Debug, Drop)]
@@ -93,11 +93,14 @@ fn check_keys(
 /// Whether the sums of an accepted query are within their bounds.
 fn check_bounds(table: &Table, checked: &Checked) -> Result<(), ProviderFault>
     requires { IsCheckedFor checked.now table.now.shape.schema }
-    ensures is { result ≡ sums_bounded table.now.rows checked.now.spec.items }
+    ensures is { result ≡ or_sum_fault (sums_bounded table.now checked.now.spec.items) }
     ensures memory { IfErr result OwnsMemory }
 {
     accepted_has_cells();
-    check_sums(table, checked.spec.items.as_slice())
+    match check_sums(table, checked.spec.items.as_slice()) {
+        Ok(()) => Ok(()),
+        Err(fault) => Err(ProviderFault::SumBound(fault.column, fault.at)),
+    }
 }
 
 /// The frame that bytes are, for this provider and its table's shape.

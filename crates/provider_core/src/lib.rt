@@ -4,13 +4,10 @@
 
 mod answering;
 mod asked;
-mod bounds;
 mod fault;
-pub mod laws;
 mod layout;
 mod shapes;
 mod words;
 
 pub use answering::answer;
-pub use bounds::check_sums;
 pub use fault::ProviderFault;

@@ -3,12 +3,13 @@ ghost use Rattle.query_reader.specs.Accepted.{IsCheckedFor};
 ghost use Rattle.query_reader.specs.Params.{AreParamsFor};
 
 use crate::fixtures::{FLIGHTS, checked_of, params_of};
-use clear_sql::{clear_answer, print_answer, sums_fit};
+use clear_sql::{clear_answer, print_answer};
 use csv_tables::read_table;
 use query_reader::{Checked, ParamFault, Params, laws};
 use spl_values::{Bytes, Table, read_shape};
 use std::alloc::{AllocError, Global};
 use std::test::Fail;
+use sum_bounds::check_sums;
 
 fn table_of(alloc: Global, shape: &[u8], rows: &[u8]) -> Result<Table, Fail> {
     let shape = read_shape(alloc, shape)?;
@@ -26,11 +27,13 @@ fn text_of(
     requires params { AreParamsFor checked.now table.now.shape.schema params.now }
 {
     laws::accepted_has_cells();
-    if !sums_fit(&checked.spec, table) {
-        return Ok(Bytes::from_vec(b"sums over 64 bits".to_vec(alloc)?));
+    match check_sums(table, checked.spec.items.as_slice()) {
+        Ok(()) => {
+            let answer = clear_answer(alloc, checked, params, table)?;
+            print_answer(alloc, checked, &table.shape().schema, &answer)
+        }
+        Err(_) => Ok(Bytes::from_vec(b"sums over 64 bits".to_vec(alloc)?)),
     }
-    let answer = clear_answer(alloc, checked, params, table)?;
-    print_answer(alloc, checked, &table.shape().schema, &answer)
 }
 
 /// The same where the parameters are words.

@@ -2,8 +2,6 @@
 #![tactic(auto)]
 
 #[cfg(test)]
-mod cell_texts;
-#[cfg(test)]
 mod clear_answers;
 #[cfg(test)]
 mod fixtures;

@@ -22,7 +22,7 @@ use Rattle.session_model.specs.Sessions.{key_frame}
 use Rattle.client_rounds.specs.Asked.{IsAsked}
 use Rattle.provider_core.specs.Answering.{answered}
 use Rattle.provider_core.specs.Asking.{asked_in, frame_in, if_own, if_same_text, keys_placed, query_in}
-use Rattle.provider_core.specs.Bounds.{sums_bounded}
+use Rattle.sum_bounds.specs.Bounds.{sums_bounded}
 use Rattle.session_laws.proofs.Layouts.{round_placed}
 
 own_is : (p : Provider) → if_own p p ≡ Ok tt
@@ -37,7 +37,7 @@ frame_is : (p : Provider) (bytes : List ℕ) (table : TableParts) (f : KeyFrame)
 unfolding frame_in
 frame_is p bytes table f read own same = rw (read, own, same) refl
 
-query_is : (table : TableParts) (f : KeyFrame) (checked : Checked) → checked_in table.shape.schema f.query ≡ Ok checked → keys_placed table f checked ≡ Ok tt → sums_bounded table.rows checked.spec.items ≡ Ok tt
+query_is : (table : TableParts) (f : KeyFrame) (checked : Checked) → checked_in table.shape.schema f.query ≡ Ok checked → keys_placed table f checked ≡ Ok tt → sums_bounded table checked.spec.items ≡ Ok tt
     → query_in table f ≡ Ok checked
 unfolding query_in
 query_is table f checked read placed bounded = rw (read, placed, bounded) refl
@@ -53,7 +53,7 @@ unfolding answered
 answered_is e p bytes table f checked asked = rw asked refl
 
 pub own_answered : (e : Meaning) (p : Provider) (checked : Checked) (table : TableParts) (params words bytes : List ℕ) → IsAsked checked table.shape params → list_all is_sum checked.spec.items ≡ true
-    → sums_bounded table.rows checked.spec.items ≡ Ok tt → checked_in table.shape.schema (canonical_text checked.query) ≡ Ok checked → KeyFrameOf bytes (key_frame e p checked table.shape params words)
+    → sums_bounded table checked.spec.items ≡ Ok tt → checked_in table.shape.schema (canonical_text checked.query) ≡ Ok checked → KeyFrameOf bytes (key_frame e p checked table.shape params words)
     → answered e p bytes table ≡ Ok (answer_bytes e p bytes (key_frame e p checked table.shape params words) checked table)
 own_answered e p checked table params words bytes asked sums bounded canonical of =
     let f = key_frame e p checked table.shape params words in

@@ -4,13 +4,11 @@ use Rattle.spl_words.specs.declared.provider.Provider.{Provider}
 use Rattle.spl_words.specs.declared.provider.Provider.TheVariants.{Zero, One}
 use Rattle.spl_values.specs.Tables.{TableParts, IsTable}
 use Rattle.seed_expansion.specs.Expanders.{Meaning, IsPure}
-use Rattle.cell_merge.specs.TableRows.{rows_of}
 use Rattle.query_tokens.specs.Printing.{canonical_text}
 use Rattle.query_reader.specs.declared.checked.Checked.{Checked}
 use Rattle.query_reader.specs.Accepted.{IsCheckedFor}
 use Rattle.query_reader.proofs.Codes.{answered_known}
 use Rattle.judged_queries.specs.Queries.{checked_in}
-use Rattle.clear_sql.specs.Clear.{SumsFit}
 use Rattle.key_frames.specs.Frames.{KeyFrameOf}
 use Rattle.answer_frames.specs.Spelling.{AnswerOf}
 use Rattle.session_model.specs.Answers.{answer_bytes, answer_frame}
@@ -60,15 +58,15 @@ module _ (e : Meaning) (s : Session) (zero one : List ℕ) (is : IsSession s) (s
   one_is : one ≡ own_answer One
   one_is = one_answer (answered e One (own_key e s One) s.table) one (own_answer One) second (is_own One)
 
-  module _ (pure : IsPure e) (fit : SumsFit s.table.shape.schema.columns s.checked.spec.items (rows_of s.table)) where
+  module _ (pure : IsPure e) where
     pub own_end : finished (own_note e s) zero one ≡ Ok (own_text s)
     own_end =
         ap (λ (a : List ℕ). finished (own_note e s) a one) zero_is
         ∙ ap (λ (b : List ℕ). finished (own_note e s) (own_answer Zero) b) one_is
-        ∙ ends e pure s.checked s.table s.params s.words is.given.0 is.table is.form is.accepted is.sums is.given.1 fit spelled.note canonical
+        ∙ ends e pure s.checked s.table s.params s.words is.given.0 is.table is.form is.accepted is.sums is.given.1 is.bounded spelled.note canonical
 
     pub own_end_exchanged : finished (own_note e s) one zero ≡ Ok (own_text s)
     own_end_exchanged =
         ap (λ (a : List ℕ). finished (own_note e s) one a) zero_is
         ∙ ap (λ (b : List ℕ). finished (own_note e s) b (own_answer Zero)) one_is
-        ∙ ends_exchanged e pure s.checked s.table s.params s.words is.given.0 is.table is.form is.accepted is.sums is.given.1 fit spelled.note canonical
+        ∙ ends_exchanged e pure s.checked s.table s.params s.words is.given.0 is.table is.form is.accepted is.sums is.given.1 is.bounded spelled.note canonical

@@ -13,7 +13,7 @@ use Rattle.key_frames.specs.Frames.{KeyFrameOf}
 use Rattle.key_frames.specs.Notes.{NoteOf}
 use Rattle.session_model.specs.Sessions.{key_frame, key_bytes, note, note_bytes, clear_text}
 use Rattle.provider_core.specs.Answering.{answered}
-use Rattle.provider_core.specs.Bounds.{sums_bounded}
+use Rattle.sum_bounds.specs.Bounds.{sums_bounded}
 
 -- a query, the codes of its parameters, the table that both providers hold, and the words that are drawn
 pub record Session : Type 0 where
@@ -29,7 +29,7 @@ pub record IsSession (s : Session) : Type 0 where
   pub accepted : IsCheckedFor s.checked s.table.shape.schema
   pub sums : list_all is_sum s.checked.spec.items ≡ true
   pub given : (texts : List (List ℕ)) × (params_of_words s.checked.query s.table.shape.schema texts ≡ Ok s.params)
-  pub bounded : sums_bounded s.table.rows s.checked.spec.items ≡ Ok tt
+  pub bounded : sums_bounded s.table s.checked.spec.items ≡ Ok tt
 
 -- the bytes of a provider's key file
 abbrev pub own_key : Meaning → Session → Provider → List ℕ

@@ -16,19 +16,18 @@ ghost use Rattle.client_rounds.specs.Asked.{IsAsked};
 ghost use Rattle.client_rounds.specs.Expanding.{GivesSeeds};
 ghost use Rattle.client_rounds.specs.Finishing.{finished};
 ghost use Rattle.provider_core.specs.Answering.{answered};
-ghost use Rattle.provider_core.specs.Bounds.{sums_bounded};
+ghost use Rattle.sum_bounds.specs.Bounds.{sums_bounded};
 ghost use Rattle.session_laws.specs.Sessions.{Session, IsSession, IsSpelled, IsAnswer, own_note, own_text};
 
 use client_rounds::laws::{params_are_few, round_is_spelled};
 use judged_queries::laws::canonical_text_is_accepted;
-use provider_core::laws::bounded_sums_fit;
 
 /// A provider answers its key frame of a round, over a table of the shape that is asked whose sums are within their
 /// bounds: for every expander, accepted query of counts, sums and means, parameters and drawn words, nothing refuses the
 /// bytes of the frame, and what is answered is the spelling of an answer frame.
 pub fn own_keys_are_answered()
     ensures answered { (e : Meaning) (p : Provider) (checked : Checked) (table : TableParts) (params words bytes : List ℕ) → IsTable table → IsAsked checked table.shape params
-        → list_all is_sum checked.spec.items ≡ true → sums_bounded table.rows checked.spec.items ≡ Ok tt → KeyFrameOf bytes (key_frame e p checked table.shape params words)
+        → list_all is_sum checked.spec.items ≡ true → sums_bounded table checked.spec.items ≡ Ok tt → KeyFrameOf bytes (key_frame e p checked table.shape params words)
         → answered e p bytes table ≡ Ok (answer_bytes e p bytes (key_frame e p checked table.shape params words) checked table) }
     ensures spelled { (e : Meaning) (p : Provider) (checked : Checked) (table : TableParts) (params words bytes : List ℕ) → IsTable table → IsCheckedFor checked table.shape.schema
         → KeyFrameOf bytes (key_frame e p checked table.shape params words)
@@ -56,5 +55,4 @@ pub fn own_sessions_end()
         → finished (own_note e s) one zero ≡ Ok (own_text s) }
 {
     canonical_text_is_accepted();
-    bounded_sums_fit();
 }

@@ -6,7 +6,8 @@ use Rattle.spl_words.specs.Results.{◌>>=◌}
 use Rattle.spl_words.specs.declared.provider.Provider.TheVariants.{Zero}
 use Rattle.spl_values.specs.Shapes.{ShapeParts}
 use Rattle.spl_values.specs.Tables.{TableParts}
-use Rattle.provider_core.specs.Bounds.{sums_bounded}
+use Rattle.provider_core.specs.Asking.{or_sum_fault}
+use Rattle.sum_bounds.specs.Bounds.{sums_bounded}
 use Rattle.command_words.specs.Orders.{TraceOrder}
 use Rattle.splinter_status.specs.Phases.{InputGives}
 use Rattle.splinter_status.specs.declared.stops.InputStop.{InputStop}
@@ -28,9 +29,9 @@ stop_in step next input.OutOfMemory gives = tt
 -- a sum is over its bound
 pub over_bound : (o : TraceOrder) (files mid : Option FileMap) (shape : ShapeParts) (a : Asked) (table : TableParts) (s : InputStop) (r : Result Traced InputStop) → r ≡ Err s → IfSome files (λ m. shape_in m o.shape ≡ Ok shape)
     → mid ≡ files → asked_in shape o.query o.parameters ≡ Ok a → IfSome mid (λ m. table_in m o.table shape ≡ Ok table)
-    → InputGives {X = Unit {0}} {Y = Unit {0}} (λ x. x) (Err s) (or_provider_refusal Zero [] table.shape (sums_bounded table.rows a.checked.spec.items)) → IfSome files (λ m. InputGives {X = Traced} {Y = Effect} (λ t. traced t) r (trace_ready o m))
+    → InputGives {X = Unit {0}} {Y = Unit {0}} (λ x. x) (Err s) (or_provider_refusal Zero [] table.shape (or_sum_fault (sums_bounded table a.checked.spec.items))) → IfSome files (λ m. InputGives {X = Traced} {Y = Effect} (λ t. traced t) r (trace_ready o m))
 unfolding trace_ready
 over_bound o None mid shape a table s r is found same judged read gives = tt
 over_bound o (Some m) mid shape a table s r is found same judged read gives =
     let rows = subst (λ k. IfSome k (λ n. table_in n o.table shape ≡ Ok table)) same read in
-    rw (is, found, judged, rows) (stop_in (or_provider_refusal Zero [] table.shape (sums_bounded table.rows a.checked.spec.items)) _ s gives)
+    rw (is, found, judged, rows) (stop_in (or_provider_refusal Zero [] table.shape (or_sum_fault (sums_bounded table a.checked.spec.items))) _ s gives)

@@ -11,7 +11,8 @@ use Rattle.private_plan.specs.Plans.{plan_of}
 use Rattle.session_model.specs.Answers.{answer_words}
 use Rattle.session_model.specs.Sessions.{key_bytes, key_frame, note_bytes, clear_text}
 use Rattle.provider_core.specs.Answering.{answered as answered_over}
-use Rattle.provider_core.specs.Bounds.{sums_bounded}
+use Rattle.provider_core.specs.Asking.{or_sum_fault}
+use Rattle.sum_bounds.specs.Bounds.{sums_bounded}
 use Rattle.client_rounds.specs.declared.faults.Source.{Source}
 use Rattle.client_rounds.specs.declared.faults.Source.TheVariants as source
 use Rattle.client_rounds.specs.declared.judging.Judged.{Judged}
@@ -87,7 +88,7 @@ trace_ready o files = do
   shape ← shape_in files o.shape
   question ← asked_in shape o.query o.parameters
   table ← table_in files o.table shape
-  bounded ← or_provider_refusal Zero [] table.shape (sums_bounded table.rows question.checked.spec.items)
+  bounded ← or_provider_refusal Zero [] table.shape (or_sum_fault (sums_bounded table question.checked.spec.items))
   Ok (traced (record { checked = question.checked; params = question.params; table = table }))
 
 -- what `keys` reads: the shape, and what the query and the parameters ask of it

@@ -1,7 +1,7 @@
 -- What a command is over that is ready.
 use Rattle.std.specs.Prelude.{◌≡◌, Ok}
 use Rattle.splinter_steps.specs.Questions.{IsAsked}
-use Rattle.provider_core.specs.Bounds.{sums_bounded}
+use Rattle.sum_bounds.specs.Bounds.{sums_bounded}
 use Rattle.splinter_commands.specs.declared.keys.Question.{Question}
 use Rattle.splinter_commands.specs.declared.trace.Traced.{Traced}
 
@@ -12,4 +12,4 @@ IsQuestion q = IsAsked q.shape (record { checked = q.checked; params = q.params 
 -- the same for the shape of the table, whose sums are within their bounds
 pub record IsTraced (t : Traced) : Type 0 where
   pub asked : IsAsked t.table.shape (record { checked = t.checked; params = t.params })
-  pub bounded : sums_bounded t.table.rows t.checked.spec.items ≡ Ok tt
+  pub bounded : sums_bounded t.table t.checked.spec.items ≡ Ok tt

@@ -2,7 +2,8 @@
 ghost use Rattle.std.specs.Prelude.{◌≡◌, [], Ok, Err, IfSome, IfOk, IfErr, IsErrOf};
 ghost use Rattle.spl_outside.specs.Causes.{Counts};
 ghost use Rattle.spl_words.specs.declared.provider.Provider.TheVariants.{Zero};
-ghost use Rattle.provider_core.specs.Bounds.{sums_bounded};
+ghost use Rattle.sum_bounds.specs.Bounds.{sums_bounded};
+ghost use Rattle.provider_core.specs.Asking.{or_sum_fault};
 ghost use Rattle.query_reader.specs.Accepted.{IsCheckedFor};
 ghost use Rattle.command_words.specs.Views.{trace_order, IsWorkers};
 ghost use Rattle.splinter_status.specs.Phases.{InputGives, StopsAtFiles, EndsAtFiles};
@@ -16,7 +17,7 @@ use crate::refusals::provider_stop;
 use crate::rounds::begin;
 use crate::sessions::session_text;
 use command_words::TraceWords;
-use provider_core::{ProviderFault, check_sums};
+use provider_core::ProviderFault;
 use query_reader::laws::accepted_has_cells;
 use query_reader::{Checked, Params};
 use share_eval::Gate;
@@ -27,6 +28,7 @@ use splinter_status::{InputStop, Stopped};
 use splinter_steps::{Asked, judge, read_shape, read_table};
 use std::alloc::Global;
 use std::thread::Threads;
+use sum_bounds::check_sums;
 
 /// An accepted query that is built, its parameters, and a table of its schema whose sums are within their bounds.
 #[derive(Debug, Drop)]
@@ -42,23 +44,21 @@ pub struct Traced {
 /// Refuses a sum over its bound.
 fn check_bounds(alloc: Global, asked: &Asked, table: &Table) -> Result<(), InputStop>
     requires { IsCheckedFor asked.now.checked table.now.shape.schema }
-    ensures gives { InputGives (λ bounded. bounded) result (or_provider_refusal Zero [] table.now.shape (sums_bounded table.now.rows asked.now.checked.spec.items)) }
-    ensures bounded { IfOk result (λ _. sums_bounded table.now.rows asked.now.checked.spec.items ≡ Ok tt) }
+    ensures gives { InputGives (λ bounded. bounded) result (or_provider_refusal Zero [] table.now.shape (or_sum_fault (sums_bounded table.now asked.now.checked.spec.items))) }
+    ensures bounded { IfOk result (λ _. sums_bounded table.now asked.now.checked.spec.items ≡ Ok tt) }
     ensures refusals { IfErr result StopsAtFiles }
     ensures no_fault { IsErrOf result InputStop.FileFault → ⊥ }
 {
     accepted_has_cells();
     match check_sums(table, asked.checked.spec.items.as_slice()) {
         Ok(()) => Ok(()),
-        Err(ProviderFault::SumBound(column, at)) => Err(provider_stop(
+        Err(fault) => Err(provider_stop(
             alloc,
             Provider::Zero,
             "",
             table.shape(),
-            ProviderFault::SumBound(column, at),
+            ProviderFault::SumBound(fault.column, fault.at),
         )),
-        // A sum has no other refusal.
-        Err(_) => Err(InputStop::OutOfMemory),
     }
 }
 
