@@ -15,12 +15,21 @@ use Rattle.query_grammar.specs.Machine.{State, Start, TableEnd, Items, CountOpen
 use Rattle.query_grammar.specs.Faults.{ended, after, verdict}
 use Rattle.query_parser.specs.Reading.{Left, verdict_at, Refuses}
 use Rattle.spl_words.specs.Results.{◌>>=◌}
-use Rattle.query_parser.specs.Parsing.{Fails, is_symbol, take_at, symbol_at, name_of, name_at, number_of, number_at, count_at, aggregate_at, top_at, item_of, item_at, more_of, listed_at, with_item}
+use Rattle.query_parser.specs.Parsing.{Fails, same_symbol, take_at, symbol_of, any_symbol_at, symbol_at, name_of, name_at, number_of, number_at, count_at, aggregate_at, top_at, item_of, item_at, more_of, more_at, listed_at, with_item}
 
 -- a first part, and then the rest
 pub chain : {A B C : Type 0} (v : Result C ℕ) (m : Result A ℕ) (f : A → Result C ℕ) (g : A → Result B ℕ) (k : B → Result C ℕ) → v ≡ (m >>= f) → ((x : A) → f x ≡ (g x >>= k)) → v ≡ ((m >>= g) >>= k)
 chain v (Ok x) f g k e h = e ∙ h x
 chain v (Err x) f g k e h = e
+
+-- the token is that symbol
+abbrev pub is_symbol : Symbol → Token → Bool
+is_symbol wanted (TheSymbol symbol) = same_symbol wanted symbol
+is_symbol wanted _ = false
+
+wanted_of : (wanted : Symbol) (t : Token) (at : ℕ) (l : Left) → (if is_symbol wanted t then Ok l else Err at) ≡ (symbol_of t at l >>= λ s. if same_symbol wanted s.0.0 then Ok s.1 else Err s.0.1)
+wanted_of wanted (TheSymbol s) at l = refl
+wanted_of wanted _ at l = refl
 
 -- in state s only this symbol goes on
 pub record WantsSymbol (s z : State) (wanted : Symbol) : Type 0 where
@@ -33,9 +42,11 @@ may_symbol true z p ps end = refl
 may_symbol false z p ps end = refl
 
 symbol_steps : (s z : State) (wanted : Symbol) (ps : List Placed) (end : ℕ) → WantsSymbol s z wanted → verdict s ps end ≡ (symbol_at wanted (record { tokens = ps; end = end }) >>= verdict_at z)
-unfolding symbol_at take_at
+unfolding symbol_at any_symbol_at take_at
 symbol_steps s z wanted [] end w = ap (λ o. ended o end) w.end
-symbol_steps s z wanted (p ∷ ps) end w = ap (λ o. after o p.at (λ y. verdict y ps end)) (w.steps p.token) ∙ may_symbol (is_symbol wanted p.token) z p ps end
+symbol_steps s z wanted (p ∷ ps) end w =
+    ap (λ o. after o p.at (λ y. verdict y ps end)) (w.steps p.token) ∙ may_symbol (is_symbol wanted p.token) z p ps end
+    ∙ ap (λ r. r >>= verdict_at z) (wanted_of wanted p.token p.at (record { tokens = ps; end = end }))
 
 pub symbol_then : (s z : State) (wanted : Symbol) (l : Left) → WantsSymbol s z wanted → verdict_at s l ≡ (symbol_at wanted l >>= verdict_at z)
 symbol_then s z wanted l w = symbol_steps s z wanted l.tokens l.end w
@@ -49,6 +60,14 @@ take_steps s (p ∷ ps) end e = refl
 
 pub take_then : (s : State) (l : Left) → finish s ≡ None → verdict_at s l ≡ (take_at l >>= λ p. after (step s p.0.token) p.0.at (λ y. verdict_at y p.1))
 take_then s l e = take_steps s l.tokens l.end e
+
+-- in state s a token of one kind goes on, as g says
+pub kind_then : {A B : Type 0} (s : State) (l : Left) (of : Token → ℕ → Left → Result A ℕ) (g : A → Result B ℕ) (k : B → Result QueryParts ℕ) → finish s ≡ None
+    → ((t : Token) (at : ℕ) (m : Left) → after (step s t) at (λ y. verdict_at y m) ≡ (of t at m >>= λ x. g x >>= k))
+    → verdict_at s l ≡ (((take_at l >>= λ p. of p.0.token p.0.at p.1) >>= g) >>= k)
+kind_then s l of g k e h =
+    chain _ (take_at l >>= λ p. of p.0.token p.0.at p.1) (λ x. g x >>= k) g k
+    (chain _ (take_at l) _ (λ p. of p.0.token p.0.at p.1) (λ x. g x >>= k) (take_then s l e) (λ p. h p.0.token p.0.at p.1)) (λ x. refl)
 
 -- in state s only a name goes on, or only a number
 pub record WantsName (s : State) (next : List ℕ → State) : Type 0 where
@@ -161,16 +180,20 @@ abbrev pub listed_state : List Item → Item × Bool → State
 listed_state is x = if x.1 then Items (is ++ x.0 ∷ []) else Table (is ++ x.0 ∷ [])
 
 more_step : (is : List Item) (i : Item) (t : Token) (at : ℕ) (l : Left)
-    → after (step (ItemEnd (is ++ i ∷ [])) t) at (λ y. verdict_at y l) ≡ (more_of i t at l >>= λ x. verdict_at (listed_state is x.0) x.1)
+    → after (step (ItemEnd (is ++ i ∷ [])) t) at (λ y. verdict_at y l) ≡ (symbol_of t at l >>= λ s. more_of s.0.0 s.0.1 s.1 >>= λ m. verdict_at (listed_state is (i, m.0)) m.1)
 more_step is i (TheSymbol Comma) at l = refl
 more_step is i (TheSymbol From) at l = refl
 more_step is i _ at l = refl
+
+more_law : (is : List Item) (i : Item) (l : Left) → verdict_at (ItemEnd (is ++ i ∷ [])) l ≡ (more_at l >>= λ m. verdict_at (listed_state is (i, m.0)) m.1)
+unfolding more_at any_symbol_at
+more_law is i l = kind_then (ItemEnd (is ++ i ∷ [])) l symbol_of (λ s. more_of s.0.0 s.0.1 s.1) (λ m. verdict_at (listed_state is (i, m.0)) m.1) refl (more_step is i)
 
 pub listed_law : (is : List Item) (l : Left) → verdict_at (Items is) l ≡ (listed_at l >>= λ x. verdict_at (listed_state is x.0) x.1)
 unfolding listed_at
 listed_law is l =
     chain _ (item_at l) _ _ _ (item_law is l)
-    (λ i. chain _ (take_at i.1) _ _ _ (take_then (ItemEnd (is ++ i.0 ∷ [])) i.1 refl) (λ p. more_step is i.0 p.0.token p.0.at p.1))
+    (λ i. chain _ (more_at i.1) _ _ _ (more_law is i.0 i.1) (λ m. refl))
 
 -- what a call returned, under such a law
 pub gave : {A C : Type 0} (v : Result C ℕ) (m : Result A ℕ) (f : A → Result C ℕ) (x : A) → v ≡ (m >>= f) → m ≡ Ok x → v ≡ f x

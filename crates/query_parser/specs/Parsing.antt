@@ -59,11 +59,6 @@ same_symbol Question Question = true
 same_symbol Semicolon Semicolon = true
 same_symbol _ _ = false
 
--- The token is that symbol.
-abbrev pub is_symbol : Symbol → Token → Bool
-is_symbol wanted (TheSymbol symbol) = same_symbol wanted symbol
-is_symbol wanted _ = false
-
 -- The first of some tokens, or the end.
 abbrev pub take_from : List Placed → ℕ → Result (Placed × Left) ℕ
 take_from [] end = Err end
@@ -73,11 +68,22 @@ take_from (p ∷ ps) end = Ok (p, record { tokens = ps; end = end })
 unfoldable pub take_at : Left → Result (Placed × Left) ℕ
 take_at l = take_from l.tokens l.end
 
+-- The token is a symbol, of which the place is told too.
+abbrev pub symbol_of : Token → ℕ → Left → Result ((Symbol × ℕ) × Left) ℕ
+symbol_of (TheSymbol symbol) at l = Ok ((symbol, at), l)
+symbol_of _ at l = Err at
+
+-- Any symbol, and its place.
+unfoldable pub any_symbol_at : Left → Result ((Symbol × ℕ) × Left) ℕ
+any_symbol_at l = do
+  p ← take_at l
+  symbol_of p.0.token p.0.at p.1
+
 -- That symbol.
 unfoldable pub symbol_at : Symbol → Left → Result Left ℕ
 symbol_at wanted l = do
-  p ← take_at l
-  if is_symbol wanted p.0.token then Ok p.1 else Err p.0.at
+  s ← any_symbol_at l
+  if same_symbol wanted s.0.0 then Ok s.1 else Err s.0.1
 
 -- The token is a name.
 abbrev pub name_of : Token → ℕ → Left → Result (List ℕ × Left) ℕ
@@ -142,18 +148,24 @@ item_at l = do
   p ← take_at l
   item_of p.0.token p.0.at p.1
 
+-- Whether the symbol behind an item is a comma, and not FROM.
+abbrev pub more_of : Symbol → ℕ → Left → Result (Bool × Left) ℕ
+more_of Comma at l = Ok (true, l)
+more_of From at l = Ok (false, l)
+more_of _ at l = Err at
+
 -- Whether a comma follows an item, and not FROM.
-abbrev pub more_of : Item → Token → ℕ → Left → Result ((Item × Bool) × Left) ℕ
-more_of i (TheSymbol Comma) at l = Ok ((i, true), l)
-more_of i (TheSymbol From) at l = Ok ((i, false), l)
-more_of i _ at l = Err at
+unfoldable pub more_at : Left → Result (Bool × Left) ℕ
+more_at l = do
+  s ← any_symbol_at l
+  more_of s.0.0 s.0.1 s.1
 
 -- An item, and what follows it.
 unfoldable pub listed_at : Left → Result ((Item × Bool) × Left) ℕ
 listed_at l = do
   i ← item_at l
-  p ← take_at i.1
-  more_of i.0 p.0.token p.0.at p.1
+  m ← more_at i.1
+  Ok ((i.0, m.0), m.1)
 
 -- Where an item ends.
 abbrev pub with_item : List Item → Item × Left → Result QueryParts ℕ
@@ -168,18 +180,29 @@ abbrev pub Leaves : Result (Unit {0}) ReadFault → Found → Left → Result (F
 Leaves (Ok x) w new read = read ≡ Ok (w, new)
 Leaves (Err e) w new read = Fails e read
 
+-- The token is a literal, or none for a question mark, of which the place is told too.
+abbrev pub operand_of : Token → ℕ → Left → Result ((Option Literal × ℕ) × Left) ℕ
+operand_of (TheSymbol Question) at l = Ok ((None, at), l)
+operand_of (Number k) at l = Ok ((Some (literal.Number k), at), l)
+operand_of (Text t) at l = Ok ((Some (literal.Text t), at), l)
+operand_of _ at l = Err at
+
+-- What a column is compared with, and its place.
+unfoldable pub operand_at : Left → Result ((Option Literal × ℕ) × Left) ℕ
+operand_at l = do
+  p ← take_at l
+  operand_of p.0.token p.0.at p.1
+
 -- What stands behind a name and the sign of equality.
-abbrev pub equal_of : Found → List ℕ → Token → ℕ → Left → Result (Found × Left) ℕ
-equal_of w n (TheSymbol Question) at l = if may_atom w then Ok (add_atom w (atom.Equal n), l) else Err at
-equal_of w n (Number k) at l = if may_public_in w.mode then Ok (add_public w (public.Equal n (literal.Number k)), l) else Err at
-equal_of w n (Text t) at l = if may_public_in w.mode then Ok (add_public w (public.Equal n (literal.Text t)), l) else Err at
-equal_of w n _ at l = Err at
+abbrev pub equal_of : Found → List ℕ → Option Literal → ℕ → Left → Result (Found × Left) ℕ
+equal_of w n None at l = if may_atom w then Ok (add_atom w (atom.Equal n), l) else Err at
+equal_of w n (Some k) at l = if may_public_in w.mode then Ok (add_public w (public.Equal n k), l) else Err at
 
 -- Behind a name and the sign of equality.
 unfoldable pub equal_at : Found → List ℕ → Left → Result (Found × Left) ℕ
 equal_at w n l = do
-  p ← take_at l
-  equal_of w n p.0.token p.0.at p.1
+  o ← operand_at l
+  equal_of w n o.0.0 o.0.1 o.1
 
 -- The rest of a range of two question marks.
 unfoldable pub mark_at : Found → List ℕ → Left → Result (Found × Left) ℕ
@@ -189,42 +212,39 @@ mark_at w n l = do
   Ok (add_atom w (atom.Between n), b)
 
 -- The greatest value of a public range.
-abbrev pub greatest_of : Found → List ℕ → Literal → Token → ℕ → Left → Result (Found × Left) ℕ
-greatest_of w n k (Number j) at l = Ok (add_public w (public.Between n k (literal.Number j)), l)
-greatest_of w n k (Text j) at l = Ok (add_public w (public.Between n k (literal.Text j)), l)
-greatest_of w n k _ at l = Err at
+abbrev pub greatest_of : Found → List ℕ → Literal → Option Literal → ℕ → Left → Result (Found × Left) ℕ
+greatest_of w n k None at l = Err at
+greatest_of w n k (Some j) at l = Ok (add_public w (public.Between n k j), l)
 
 -- The rest of a public range.
 unfoldable pub greatest_at : Found → List ℕ → Literal → Left → Result (Found × Left) ℕ
 greatest_at w n k l = do
   a ← symbol_at And l
-  p ← take_at a
-  greatest_of w n k p.0.token p.0.at p.1
+  o ← operand_at a
+  greatest_of w n k o.0.0 o.0.1 o.1
 
 -- What stands behind a name and BETWEEN.
-abbrev pub least_of : Found → List ℕ → Token → ℕ → Left → Result (Found × Left) ℕ
-least_of w n (TheSymbol Question) at l = if may_atom w then mark_at w n l else Err at
-least_of w n (Number k) at l = if may_public_in w.mode then greatest_at w n (literal.Number k) l else Err at
-least_of w n (Text t) at l = if may_public_in w.mode then greatest_at w n (literal.Text t) l else Err at
-least_of w n _ at l = Err at
+abbrev pub least_of : Found → List ℕ → Option Literal → ℕ → Left → Result (Found × Left) ℕ
+least_of w n None at l = if may_atom w then mark_at w n l else Err at
+least_of w n (Some k) at l = if may_public_in w.mode then greatest_at w n k l else Err at
 
 -- Behind a name and BETWEEN.
 unfoldable pub least_at : Found → List ℕ → Left → Result (Found × Left) ℕ
 least_at w n l = do
-  p ← take_at l
-  least_of w n p.0.token p.0.at p.1
+  o ← operand_at l
+  least_of w n o.0.0 o.0.1 o.1
 
 -- What stands behind a name.
-abbrev pub named_of : Found → List ℕ → Token → ℕ → Left → Result (Found × Left) ℕ
-named_of w n (TheSymbol Equals) at l = equal_at w n l
-named_of w n (TheSymbol Between) at l = least_at w n l
+abbrev pub named_of : Found → List ℕ → Symbol → ℕ → Left → Result (Found × Left) ℕ
+named_of w n Equals at l = equal_at w n l
+named_of w n Between at l = least_at w n l
 named_of w n _ at l = Err at
 
 -- Behind a name.
 unfoldable pub named_at : Found → List ℕ → Left → Result (Found × Left) ℕ
 named_at w n l = do
-  p ← take_at l
-  named_of w n p.0.token p.0.at p.1
+  s ← any_symbol_at l
+  named_of w n s.0.0 s.0.1 s.1
 
 -- A part behind an opening parenthesis.
 unfoldable pub inner_at : Found → Left → Result (Found × Left) ℕ
@@ -258,15 +278,15 @@ abbrev pub done_at : Found → Left → Result ((Found × Ending) × Left) ℕ
 done_at w l = Ok ((w, ending.Done), l)
 
 -- What stands behind the closing parenthesis.
-abbrev pub behind_of : Found → Token → ℕ → Left → Result ((Found × Ending) × Left) ℕ
-behind_of w (TheSymbol And) at l = Ok ((w, ending.More), l)
-behind_of w (TheSymbol Group) at l = Ok ((w, ending.Group), l)
-behind_of w (TheSymbol Semicolon) at l = done_at w l
+abbrev pub behind_of : Found → Symbol → ℕ → Left → Result ((Found × Ending) × Left) ℕ
+behind_of w And at l = Ok ((w, ending.More), l)
+behind_of w Group at l = Ok ((w, ending.Group), l)
+behind_of w Semicolon at l = done_at w l
 behind_of w _ at l = Err at
 
 -- Behind the part in parentheses.
 unfoldable pub behind_at : Found → Left → Result ((Found × Ending) × Left) ℕ
-behind_at w l = if no_more l.tokens then Ok ((w, ending.Done), l) else (take_at l >>= λ p. behind_of w p.0.token p.0.at p.1)
+behind_at w l = if no_more l.tokens then Ok ((w, ending.Done), l) else (any_symbol_at l >>= λ s. behind_of w s.0.0 s.0.1 s.1)
 
 -- The next branch, where OR may stand.
 abbrev pub or_of : Found → Option Mode → ℕ → Left → Result ((Found × Ending) × Left) ℕ
@@ -274,12 +294,12 @@ or_of w None at l = Err at
 or_of w (Some m) at l = Ok ((next_branch w m, ending.More), l)
 
 -- What stands behind a part.
-abbrev pub end_of : Found → Token → ℕ → Left → Result ((Found × Ending) × Left) ℕ
-end_of w (TheSymbol And) at l = if may_go_on w then Ok ((w, ending.More), l) else Err at
-end_of w (TheSymbol Or) at l = or_of w (or_in w.mode) at l
-end_of w (TheSymbol Close) at l = if close_in w.mode then behind_at (close w) l else Err at
-end_of w (TheSymbol Group) at l = if ends_in w.mode then Ok ((w, ending.Group), l) else Err at
-end_of w (TheSymbol Semicolon) at l = if ends_in w.mode then done_at w l else Err at
+abbrev pub end_of : Found → Symbol → ℕ → Left → Result ((Found × Ending) × Left) ℕ
+end_of w And at l = if may_go_on w then Ok ((w, ending.More), l) else Err at
+end_of w Or at l = or_of w (or_in w.mode) at l
+end_of w Close at l = if close_in w.mode then behind_at (close w) l else Err at
+end_of w Group at l = if ends_in w.mode then Ok ((w, ending.Group), l) else Err at
+end_of w Semicolon at l = if ends_in w.mode then done_at w l else Err at
 end_of w _ at l = Err at
 
 -- The text ends behind a part.
@@ -288,7 +308,7 @@ stop_of w l = if ends_in w.mode then Ok ((w, ending.Done), l) else Err l.end
 
 -- Behind a part.
 unfoldable pub end_at : Found → Left → Result ((Found × Ending) × Left) ℕ
-end_at w l = if no_more l.tokens then stop_of w l else (take_at l >>= λ p. end_of w p.0.token p.0.at p.1)
+end_at w l = if no_more l.tokens then stop_of w l else (any_symbol_at l >>= λ s. end_of w s.0.0 s.0.1 s.1)
 
 -- What a function that takes no memory told of how the condition goes on, and what it left, is what reading gives.
 abbrev pub Turns : Result Ending Unread → Found → Left → Result ((Found × Ending) × Left) ℕ → Type 0
@@ -315,13 +335,13 @@ unfoldable pub turn_at : Found → Left → Result ((Found × Ending) × Left) �
 turn_at w l = part_at w l >>= λ x. end_at x.0 x.1
 
 -- The semicolon.
-abbrev pub semicolon_of : Token → ℕ → Left → Result Left ℕ
-semicolon_of (TheSymbol Semicolon) at l = Ok l
+abbrev pub semicolon_of : Symbol → ℕ → Left → Result Left ℕ
+semicolon_of Semicolon at l = Ok l
 semicolon_of _ at l = Err at
 
 -- The semicolon, which may be absent.
 unfoldable pub semicolon_at : Left → Result Left ℕ
-semicolon_at l = if no_more l.tokens then Ok l else (take_at l >>= λ p. semicolon_of p.0.token p.0.at p.1)
+semicolon_at l = if no_more l.tokens then Ok l else (any_symbol_at l >>= λ s. semicolon_of s.0.0 s.0.1 s.1)
 
 -- The name of a group, to the end.
 unfoldable pub group_at : Left → Result (List ℕ × Left) ℕ
@@ -333,15 +353,15 @@ group_at l = do
   Ok (n.0, c)
 
 -- What stands behind the table's name.
-abbrev pub opening_of : Token → ℕ → Left → Result (Ending × Left) ℕ
-opening_of (TheSymbol Where) at l = Ok (ending.More, l)
-opening_of (TheSymbol Group) at l = Ok (ending.Group, l)
-opening_of (TheSymbol Semicolon) at l = Ok (ending.Done, l)
+abbrev pub opening_of : Symbol → ℕ → Left → Result (Ending × Left) ℕ
+opening_of Where at l = Ok (ending.More, l)
+opening_of Group at l = Ok (ending.Group, l)
+opening_of Semicolon at l = Ok (ending.Done, l)
 opening_of _ at l = Err at
 
 -- Behind the table's name.
 unfoldable pub opening_at : Left → Result (Ending × Left) ℕ
-opening_at l = if no_more l.tokens then Ok (ending.Done, l) else (take_at l >>= λ p. opening_of p.0.token p.0.at p.1)
+opening_at l = if no_more l.tokens then Ok (ending.Done, l) else (any_symbol_at l >>= λ s. opening_of s.0.0 s.0.1 s.1)
 
 -- Behind all conditions.
 unfoldable pub closing_at : Ending → Left → Result (Option (List ℕ) × Left) ℕ

@@ -2,7 +2,7 @@
 ghost use Rattle.std.specs.Prelude.{◌≡◌, ◌<◌, ◌≤◌, length, OnOk, IfOk};
 ghost use Rattle.query_grammar.specs.Machine.{Found, TableEnd, Head};
 ghost use Rattle.query_parser.specs.Reading.{Moves};
-ghost use Rattle.query_parser.specs.Parsing.{GivesAt, Leaves, equal_at, mark_at, greatest_at, least_at, named_at, inner_at, part_at, behind_at, end_at, turn_at, Leads, Turns, ending_state, opening_at};
+ghost use Rattle.query_parser.specs.Parsing.{GivesAt, Leaves, operand_at, equal_at, mark_at, greatest_at, least_at, named_at, inner_at, part_at, behind_at, end_at, turn_at, Leads, Turns, ending_state, opening_at};
 
 use crate::cursor::Cursor;
 use crate::fault::{ReadFault, Unread};
@@ -11,22 +11,34 @@ use query_grammar::{Atom, Literal, Public, Symbol, Token};
 use spl_values::Name;
 use std::alloc::Global;
 
+/// What a column is compared with: a literal, or none for a question mark. Where it stands is told
+/// with it.
+#[tactic(auto, unfolding(crate::specs::Parsing::operand_at))]
+fn operand(cursor: &mut Cursor) -> Result<(Option<Literal>, u64), Unread>
+    ensures read { GivesAt result cursor.new (operand_at cursor.old) }
+    ensures left { length cursor.new.tokens ≤ length cursor.old.tokens }
+{
+    let placed = cursor.take()?;
+    let at = placed.at;
+    match placed.token {
+        Token::Symbol(Symbol::Question) => Ok((None, at)),
+        Token::Number(number) => Ok((Some(Literal::Number(number)), at)),
+        Token::Text(text) => Ok((Some(Literal::Text(text)), at)),
+        _ => Err(Unread { at }),
+    }
+}
+
 /// What stands behind a name and its symbol of equality.
 #[tactic(auto, unfolding(crate::specs::Parsing::equal_at))]
 fn equality(cursor: &mut Cursor, found: &mut Conditions, name: Name) -> Result<(), ReadFault>
     ensures read { Leaves result found.new cursor.new (equal_at found.old name cursor.old) }
     ensures left { length cursor.new.tokens ≤ length cursor.old.tokens }
 {
-    let placed = cursor.take()?;
-    match placed.token {
-        Token::Symbol(Symbol::Question) if found.may_atom() => found.add_atom(Atom::Equal(name))?,
-        Token::Number(number) if found.may_public() => {
-            found.add_public(Public::Equal(name, Literal::Number(number)))?
-        }
-        Token::Text(text) if found.may_public() => {
-            found.add_public(Public::Equal(name, Literal::Text(text)))?
-        }
-        _ => return Err(ReadFault::NoReading(placed.at)),
+    let (value, at) = operand(cursor)?;
+    match value {
+        None if found.may_atom() => found.add_atom(Atom::Equal(name))?,
+        Some(literal) if found.may_public() => found.add_public(Public::Equal(name, literal))?,
+        _ => return Err(ReadFault::NoReading(at)),
     }
     Ok(())
 }
@@ -55,13 +67,10 @@ fn public_range(
     ensures left { length cursor.new.tokens ≤ length cursor.old.tokens }
 {
     cursor.expect(Symbol::And)?;
-    let placed = cursor.take()?;
-    let greatest = match placed.token {
-        Token::Number(number) => Literal::Number(number),
-        Token::Text(text) => Literal::Text(text),
-        _ => return Err(ReadFault::NoReading(placed.at)),
-    };
-    found.add_public(Public::Between(name, least, greatest))?;
+    match operand(cursor)? {
+        (Some(greatest), _) => found.add_public(Public::Between(name, least, greatest))?,
+        (None, at) => return Err(ReadFault::NoReading(at)),
+    }
     Ok(())
 }
 
@@ -71,16 +80,11 @@ fn range(cursor: &mut Cursor, found: &mut Conditions, name: Name) -> Result<(), 
     ensures read { Leaves result found.new cursor.new (least_at found.old name cursor.old) }
     ensures left { length cursor.new.tokens ≤ length cursor.old.tokens }
 {
-    let placed = cursor.take()?;
-    match placed.token {
-        Token::Symbol(Symbol::Question) if found.may_atom() => secret_range(cursor, found, name),
-        Token::Number(number) if found.may_public() => {
-            public_range(cursor, found, name, Literal::Number(number))
-        }
-        Token::Text(text) if found.may_public() => {
-            public_range(cursor, found, name, Literal::Text(text))
-        }
-        _ => Err(ReadFault::NoReading(placed.at)),
+    let (value, at) = operand(cursor)?;
+    match value {
+        None if found.may_atom() => secret_range(cursor, found, name),
+        Some(least) if found.may_public() => public_range(cursor, found, name, least),
+        _ => Err(ReadFault::NoReading(at)),
     }
 }
 
@@ -90,11 +94,11 @@ fn named(cursor: &mut Cursor, found: &mut Conditions, name: Name) -> Result<(), 
     ensures read { Leaves result found.new cursor.new (named_at found.old name cursor.old) }
     ensures left { length cursor.new.tokens ≤ length cursor.old.tokens }
 {
-    let placed = cursor.take()?;
-    match placed.token {
-        Token::Symbol(Symbol::Equals) => equality(cursor, found, name),
-        Token::Symbol(Symbol::Between) => range(cursor, found, name),
-        _ => Err(ReadFault::NoReading(placed.at)),
+    let (symbol, at) = cursor.symbol()?;
+    match symbol {
+        Symbol::Equals => equality(cursor, found, name),
+        Symbol::Between => range(cursor, found, name),
+        _ => Err(ReadFault::NoReading(at)),
     }
 }
 
@@ -135,12 +139,12 @@ fn behind(cursor: &mut Cursor) -> Result<Ending, Unread>
     if cursor.is_over() {
         return Ok(Ending::Done);
     }
-    let placed = cursor.take()?;
-    match placed.token {
-        Token::Symbol(Symbol::And) => Ok(Ending::More),
-        Token::Symbol(Symbol::Group) => Ok(Ending::Group),
-        Token::Symbol(Symbol::Semicolon) => Ok(Ending::Done),
-        _ => Err(Unread { at: placed.at }),
+    let (symbol, at) = cursor.symbol()?;
+    match symbol {
+        Symbol::And => Ok(Ending::More),
+        Symbol::Group => Ok(Ending::Group),
+        Symbol::Semicolon => Ok(Ending::Done),
+        _ => Err(Unread { at }),
     }
 }
 
@@ -157,23 +161,23 @@ fn part_end(alloc: Global, cursor: &mut Cursor, found: &mut Conditions) -> Resul
             Err(ReadFault::NoReading(cursor.end()))
         };
     }
-    let placed = cursor.take()?;
-    match placed.token {
-        Token::Symbol(Symbol::And) if found.may_go_on() => Ok(Ending::More),
-        Token::Symbol(Symbol::Or) => match found.or_mode() {
+    let (symbol, at) = cursor.symbol()?;
+    match symbol {
+        Symbol::And if found.may_go_on() => Ok(Ending::More),
+        Symbol::Or => match found.or_mode() {
             Some(mode) => {
                 found.next_branch(alloc, mode)?;
                 Ok(Ending::More)
             }
-            None => Err(ReadFault::NoReading(placed.at)),
+            None => Err(ReadFault::NoReading(at)),
         },
-        Token::Symbol(Symbol::Close) if found.may_close() => {
+        Symbol::Close if found.may_close() => {
             found.close(alloc)?;
             Ok(behind(cursor)?)
         }
-        Token::Symbol(Symbol::Group) if found.may_end() => Ok(Ending::Group),
-        Token::Symbol(Symbol::Semicolon) if found.may_end() => Ok(Ending::Done),
-        _ => Err(ReadFault::NoReading(placed.at)),
+        Symbol::Group if found.may_end() => Ok(Ending::Group),
+        Symbol::Semicolon if found.may_end() => Ok(Ending::Done),
+        _ => Err(ReadFault::NoReading(at)),
     }
 }
 
@@ -195,12 +199,12 @@ fn opening(cursor: &mut Cursor) -> Result<Ending, Unread>
     if cursor.is_over() {
         return Ok(Ending::Done);
     }
-    let placed = cursor.take()?;
-    match placed.token {
-        Token::Symbol(Symbol::Where) => Ok(Ending::More),
-        Token::Symbol(Symbol::Group) => Ok(Ending::Group),
-        Token::Symbol(Symbol::Semicolon) => Ok(Ending::Done),
-        _ => Err(Unread { at: placed.at }),
+    let (symbol, at) = cursor.symbol()?;
+    match symbol {
+        Symbol::Where => Ok(Ending::More),
+        Symbol::Group => Ok(Ending::Group),
+        Symbol::Semicolon => Ok(Ending::Done),
+        _ => Err(Unread { at }),
     }
 }
 

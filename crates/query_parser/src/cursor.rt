@@ -1,5 +1,5 @@
 ghost use Rattle.std.specs.Prelude.{◌≡◌, ◌+◌, ◌≤◌, List, [], length, OnOk};
-ghost use Rattle.query_parser.specs.Parsing.{GivesAt, Passes, is_symbol as symbol_test, take_at, symbol_at, name_at, number_at, no_more, nothing_at};
+ghost use Rattle.query_parser.specs.Parsing.{GivesAt, Passes, same_symbol, take_at, any_symbol_at, symbol_at, name_at, number_at, no_more, nothing_at};
 
 use crate::fault::Unread;
 use query_grammar::{Placed, Symbol, Token};
@@ -70,17 +70,32 @@ impl Cursor {
         Err(Unread { at: placed.at })
     }
 
+    /// Takes a symbol, and tells where it stands.
+    #[tactic(auto, unfolding(crate::specs::Parsing::any_symbol_at))]
+    pub(crate) fn symbol(&mut self) -> Result<(Symbol, u64), Unread>
+        ensures read { GivesAt result self.new (any_symbol_at self.old) }
+        ensures one { OnOk result (length self.new.tokens + 1 ≡ length self.old.tokens) }
+        ensures left { length self.new.tokens ≤ length self.old.tokens }
+    {
+        let placed = self.take()?;
+        let at = placed.at;
+        match placed.token {
+            Token::Symbol(symbol) => Ok((symbol, at)),
+            _ => Err(Unread { at }),
+        }
+    }
+
     /// Takes this symbol.
     #[tactic(auto, unfolding(crate::specs::Parsing::symbol_at))]
     pub(crate) fn expect(&mut self, wanted: Symbol) -> Result<(), Unread>
         ensures read { Passes result self.new (symbol_at wanted self.old) }
         ensures left { length self.new.tokens ≤ length self.old.tokens }
     {
-        let placed = self.take()?;
-        if is_symbol(&placed.token, wanted) {
+        let (symbol, at) = self.symbol()?;
+        if is_same(wanted, symbol) {
             Ok(())
         } else {
-            Err(Unread { at: placed.at })
+            Err(Unread { at })
         }
     }
 
@@ -111,11 +126,8 @@ impl Cursor {
     }
 }
 
-fn is_symbol(token: &Token, wanted: Symbol) -> bool
-    ensures { result ≡ symbol_test wanted token.now }
+fn is_same(wanted: Symbol, symbol: Symbol) -> bool
+    ensures { result ≡ same_symbol wanted symbol }
 {
-    match token {
-        Token::Symbol(symbol) => *symbol == wanted,
-        _ => false,
-    }
+    wanted == symbol
 }

@@ -2,7 +2,7 @@
 ghost use Rattle.std.specs.Prelude.{◌≡◌, ◌<◌, ◌≤◌, [], length, OnOk};
 ghost use Rattle.query_grammar.specs.Machine.{aggregate_item as item_aggregate, Items, Table};
 ghost use Rattle.query_parser.specs.Reading.{Moves};
-ghost use Rattle.query_parser.specs.Parsing.{GivesAt, count_at, aggregate_at, top_at, item_at, listed_at};
+ghost use Rattle.query_parser.specs.Parsing.{GivesAt, count_at, aggregate_at, top_at, item_at, more_at, listed_at};
 
 use crate::cursor::Cursor;
 use crate::fault::{ReadFault, Unread};
@@ -77,19 +77,29 @@ fn item(cursor: &mut Cursor) -> Result<Item, Unread>
     }
 }
 
-/// An item, and whether a comma follows it and not FROM.
+/// Whether a comma follows an item, and not FROM.
+#[tactic(auto, unfolding(crate::specs::Parsing::more_at))]
+fn more(cursor: &mut Cursor) -> Result<bool, Unread>
+    ensures read { GivesAt result cursor.new (more_at cursor.old) }
+    ensures left { OnOk result (length cursor.new.tokens < length cursor.old.tokens) }
+{
+    let (symbol, at) = cursor.symbol()?;
+    match symbol {
+        Symbol::Comma => Ok(true),
+        Symbol::From => Ok(false),
+        _ => Err(Unread { at }),
+    }
+}
+
+/// An item, and whether another follows it.
 #[tactic(auto, unfolding(crate::specs::Parsing::listed_at))]
 fn listed_item(cursor: &mut Cursor) -> Result<(Item, bool), Unread>
     ensures read { GivesAt result cursor.new (listed_at cursor.old) }
     ensures left { OnOk result (length cursor.new.tokens < length cursor.old.tokens) }
 {
     let item = item(cursor)?;
-    let placed = cursor.take()?;
-    match placed.token {
-        Token::Symbol(Symbol::Comma) => Ok((item, true)),
-        Token::Symbol(Symbol::From) => Ok((item, false)),
-        _ => Err(Unread { at: placed.at }),
-    }
+    let more = more(cursor)?;
+    Ok((item, more))
 }
 
 /// The items, up to FROM.

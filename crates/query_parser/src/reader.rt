@@ -13,8 +13,8 @@ use crate::cursor::Cursor;
 use crate::fault::{QueryFault, ReadFault, Unread};
 use crate::found::Ending;
 use crate::item_reader::items;
-use crate::query::Query;
-use query_grammar::{Branches, Items, Placed, Publics, Symbol, Token};
+use query_grammar::{Branches, Items, Placed, Publics, Symbol};
+use query_printer::Query;
 use query_tokens::tokens;
 use spl_values::Name;
 use std::alloc::Global;
@@ -28,10 +28,10 @@ fn semicolon(cursor: &mut Cursor) -> Result<(), Unread>
     if cursor.is_over() {
         return Ok(());
     }
-    let placed = cursor.take()?;
-    match placed.token {
-        Token::Symbol(Symbol::Semicolon) => Ok(()),
-        _ => Err(Unread { at: placed.at }),
+    let (symbol, at) = cursor.symbol()?;
+    match symbol {
+        Symbol::Semicolon => Ok(()),
+        _ => Err(Unread { at }),
     }
 }
 

@@ -3,9 +3,9 @@ use Rattle.query_grammar.specs.declared.token.Token.TheVariants.{Symbol}
 use Rattle.query_grammar.specs.declared.token.Symbol.TheVariants.{Or}
 use Rattle.query_grammar.specs.Grammar.{branch_text}
 use Rattle.query_tokens.specs.Printing.{written}
-use Rattle.query_parser.proofs.Either.{next_behind, next_first}
-use Rattle.query_parser.proofs.printer.put_either.Goals as goal
-use Rattle.query_parser.proofs.printer.put_either.Goals.{then-not-first+in_ok-symbol, else-not-first}
+use Rattle.query_printer.proofs.Either.{next_behind, next_first}
+use Rattle.query_printer.proofs.printer.put_either.Goals as goal
+use Rattle.query_printer.proofs.printer.put_either.Goals.{then-not-first+in_ok-symbol, else-not-first}
 
 pub loop-branch-preserved : goal.loop-branch-preserved
 loop-branch-preserved c =

@@ -2,8 +2,8 @@ use Rattle.std.proofs.Common.{◌∙◌, ap, map, ◌++◌}
 use Rattle.query_grammar.specs.Queries.{QueryParts}
 use Rattle.query_grammar.specs.Grammar.{where_text, Shown}
 use Rattle.query_grammar.specs.Canonical.{some_parts, branch_parts}
-use Rattle.query_parser.proofs.Either.{if_ok, whole}
-use Rattle.query_parser.proofs.printer.put_query.Goals as goal
+use Rattle.query_printer.proofs.Either.{if_ok, whole}
+use Rattle.query_printer.proofs.printer.put_query.Goals as goal
 
 pub returns : goal.returns
 returns c =

@@ -5,8 +5,8 @@ use Rattle.query_grammar.specs.Grammar.{Reads}
 use Rattle.query_tokens.specs.Tokens.{tokens_in}
 use Rattle.query_tokens.specs.Printing.{written}
 use Rattle.query_tokens.proofs.Writable.{text_is_read}
-use Rattle.query_parser.proofs.Either.{whole_text}
-use Rattle.query_parser.proofs.printer.print_query.Goals as goal
+use Rattle.query_printer.proofs.Either.{whole_text}
+use Rattle.query_printer.proofs.printer.print_query.Goals as goal
 
 pub returns-clause-text : goal.returns-clause-text
 returns-clause-text c =

@@ -1,5 +1,5 @@
-use Rattle.query_parser.proofs.Either.{several, if_ok}
-use Rattle.query_parser.proofs.printer.put_branches.Goals as goal
+use Rattle.query_printer.proofs.Either.{several, if_ok}
+use Rattle.query_printer.proofs.printer.put_branches.Goals as goal
 
 pub returns-in_ok-put_either-in-len2-up : goal.returns-in_ok-put_either-in-len2-up
 returns-in_ok-put_either-in-len2-up c =

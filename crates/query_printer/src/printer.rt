@@ -7,7 +7,7 @@ ghost use Rattle.query_grammar.specs.Canonical.{some_parts, branch_parts, canoni
 ghost use Rattle.query_grammar.specs.Grammar.{item_text, literal_text, public_text, atom_text, branch_text, where_text, group_text, joined, Part, Shown, Bare, Reads};
 ghost use Rattle.query_grammar.specs.declared.token.Symbol.TheVariants.{Open as OpenSymbol, Close as CloseSymbol, Comma as CommaSymbol, Or as OrSymbol};
 ghost use Rattle.query_grammar.specs.declared.token.Token.TheVariants.{Symbol as SymbolToken, Aggregate as AggregateToken, Name as NameToken};
-ghost use Rattle.query_parser.specs.Leading.{lead, led};
+ghost use Rattle.query_printer.specs.Leading.{lead, led};
 
 use crate::query::Query;
 use query_grammar::{Aggregate, Atom, Atoms, Item, Literal, Public, Symbol};

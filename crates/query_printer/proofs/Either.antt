@@ -9,8 +9,8 @@ use Rattle.query_grammar.specs.Grammar.{joined, item_text, branch_text, Either, 
 use Rattle.query_grammar.specs.Canonical.{branch_parts, canonical}
 use Rattle.query_tokens.specs.Printing.{Written, put, written, begun, canonical_text}
 use Rattle.query_tokens.proofs.Writing.{left_of, one_left, one_first, written_both, written_is_printed}
-use Rattle.query_parser.specs.Leading.{lead, led}
-use Rattle.query_parser.proofs.Leads.{led_step}
+use Rattle.query_printer.specs.Leading.{lead, led}
+use Rattle.query_printer.proofs.Leads.{led_step}
 
 pub next_behind : {A : Type 0} (separator : Token) (f : A → List Token) (p r : Written) (xs : List A) (i : ℕ) (x : A) → i < length xs → x ≡ get_or xs i x → r ≡ written (put p separator) (f x)
     → written r (left_of separator f false (drop (i + 1) xs)) ≡ written p (left_of separator f false (drop i xs))

@@ -6,7 +6,7 @@ use Rattle.query_grammar.specs.declared.condition.Atom.{Atom}
 use Rattle.query_grammar.specs.Grammar.{Part, Shown, Bare, part_text, public_text, atom_text}
 use Rattle.query_tokens.specs.Printing.{Written, put, written}
 use Rattle.query_tokens.proofs.Writing.{written_both}
-use Rattle.query_parser.specs.Leading.{lead, led}
+use Rattle.query_printer.specs.Leading.{lead, led}
 
 pub led_step : (first : Bool) (p : Part) (ps : List Part) (w : Written) → written w (led first (p ∷ ps)) ≡ written (written (put w (lead first)) (part_text p)) (led false ps)
 led_step true p ps w = written_both (put w (lead true)) (part_text p) (led false ps)
