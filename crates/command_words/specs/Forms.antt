@@ -51,60 +51,83 @@ provider_in text = option_map provider_of (number_in 0 1 text)
 
 -- ---- the commands
 
--- the words of `trace`
-unfoldable pub trace_form : List Text → Option TraceOrder
-trace_form words = do
-  rows ← rows_in trace_app words
+-- the number of workers among the rows
+unfoldable pub workers_of : List Row → Option ℕ
+workers_of rows = first_of (codes "workers") rows >>= workers_in
+
+-- the provider among the rows
+unfoldable pub provider_among : List Row → Option Provider
+provider_among rows = first_of (codes "provider") rows >>= provider_in
+
+-- the words of `trace` among the rows
+unfoldable pub trace_of : List Row → Option TraceOrder
+trace_of rows = do
   shape ← first_of (codes "shape") rows
   table ← first_of (codes "table") rows
   query ← first_of (codes "query") rows
+  workers ← workers_of rows
   parameters ← all_of (codes "parameter") rows
-  number ← first_of (codes "workers") rows
-  workers ← workers_in number
   Some (record { shape = shape; table = table; query = query; parameters = parameters; workers = workers })
+
+-- the words of `trace`
+unfoldable pub trace_form : List Text → Option TraceOrder
+trace_form words = rows_in trace_app words >>= trace_of
 
 -- no two of three names are equal
 abbrev pub are_apart : Text → Text → Text → Bool
 are_apart a b c = not (bytes_eq a b) && not (bytes_eq a c) && not (bytes_eq b c)
 
--- an order whose names of files to write differ
-abbrev pub if_apart : KeysOrder → Option KeysOrder
-if_apart order = if are_apart order.note order.key_zero order.key_one then Some order else None
+-- three names of files to write, which differ
+abbrev pub if_apart : Text → Text → Text → Option (Text × Text × Text)
+if_apart note key_zero key_one = if are_apart note key_zero key_one then Some (note, key_zero, key_one) else None
 
--- the words of `keys`
-unfoldable pub keys_form : List Text → Option KeysOrder
-keys_form words = do
-  rows ← rows_in keys_app words
-  shape ← first_of (codes "shape") rows
-  query ← first_of (codes "query") rows
+-- the names of the files that `keys` writes, among the rows
+unfoldable pub outputs_of : List Row → Option (Text × Text × Text)
+outputs_of rows = do
   note ← first_of (codes "note") rows
   key_zero ← first_of (codes "key0") rows
   key_one ← first_of (codes "key1") rows
-  parameters ← all_of (codes "parameter") rows
-  if_apart (record { shape = shape; query = query; note = note; key_zero = key_zero; key_one = key_one; parameters = parameters })
+  if_apart note key_zero key_one
 
--- the words of `answer`
-unfoldable pub answer_form : List Text → Option AnswerOrder
-answer_form words = do
-  rows ← rows_in answer_app words
-  digits ← first_of (codes "provider") rows
-  provider ← provider_in digits
+-- the words of `keys` among the rows
+unfoldable pub keys_of : List Row → Option KeysOrder
+keys_of rows = do
+  shape ← first_of (codes "shape") rows
+  query ← first_of (codes "query") rows
+  names ← outputs_of rows
+  parameters ← all_of (codes "parameter") rows
+  Some (record { shape = shape; query = query; note = names.0; key_zero = names.1; key_one = names.2; parameters = parameters })
+
+-- the words of `keys`
+unfoldable pub keys_form : List Text → Option KeysOrder
+keys_form words = rows_in keys_app words >>= keys_of
+
+-- the words of `answer` among the rows
+unfoldable pub answer_of : List Row → Option AnswerOrder
+answer_of rows = do
+  provider ← provider_among rows
   shape ← first_of (codes "shape") rows
   table ← first_of (codes "table") rows
   key ← first_of (codes "key") rows
   out ← first_of (codes "out") rows
-  number ← first_of (codes "workers") rows
-  workers ← workers_in number
+  workers ← workers_of rows
   Some (record { provider = provider; shape = shape; table = table; key = key; out = out; workers = workers })
 
--- the words of `combine`
-unfoldable pub combine_form : List Text → Option CombineOrder
-combine_form words = do
-  rows ← rows_in combine_app words
+-- the words of `answer`
+unfoldable pub answer_form : List Text → Option AnswerOrder
+answer_form words = rows_in answer_app words >>= answer_of
+
+-- the words of `combine` among the rows
+unfoldable pub combine_of : List Row → Option CombineOrder
+combine_of rows = do
   note ← first_of (codes "note") rows
   first ← first_of (codes "first") rows
   second ← first_of (codes "second") rows
   Some (record { note = note; first = first; second = second })
+
+-- the words of `combine`
+unfoldable pub combine_form : List Text → Option CombineOrder
+combine_form words = rows_in combine_app words >>= combine_of
 
 -- what the words of the command of this name mean
 abbrev pub form_of_command : Text → List Text → Option Order
