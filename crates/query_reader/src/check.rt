@@ -63,6 +63,21 @@ fn check(alloc: Global, query: &Query, schema: &Schema) -> Result<(), QueryFault
     check_sizes(alloc, query, schema)
 }
 
+/// The bounds that public conditions set, and the places of the columns of a branch.
+fn bounds_and_places(
+    alloc: Global,
+    schema: &Schema,
+    publics: &[Public],
+    atoms: &[Atom],
+) -> Result<(Bounds, Places), AllocError>
+    ensures bounds { IfOk result (λ both. both.0 ≡ map (bound_in schema.now) publics.now) }
+    ensures places { IfOk result (λ both. both.1 ≡ map (λ a. place_of schema.now (name_of_atom a)) atoms.now) }
+{
+    let bounds = bounds(alloc, schema, publics)?;
+    let places = places(alloc, schema, atoms)?;
+    Ok((bounds, places))
+}
+
 /// What is known of a query with these public conditions, and this branch 0.
 fn known(
     alloc: Global,
@@ -75,11 +90,14 @@ fn known(
     ensures { IfOk result (λ c. c ≡ known_of query.now schema.now publics.now atoms.now counts.0 counts.1) }
 {
     let (branches, bits) = counts;
+    let (public, columns) = bounds_and_places(alloc, schema, publics, atoms)?;
+    let spec = cell_spec(alloc, query, schema)?;
+    let query = query.clone()?;
     Ok(Checked {
-        query: query.clone()?,
-        spec: cell_spec(alloc, query, schema)?,
-        public: bounds(alloc, schema, publics)?,
-        columns: places(alloc, schema, atoms)?,
+        query,
+        spec,
+        public,
+        columns,
         range: ends_in_a_range(atoms),
         branches,
         bits,

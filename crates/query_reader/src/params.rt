@@ -1,8 +1,8 @@
 //! The codes of a query's parameters.
-ghost use Rattle.std.specs.Prelude.{◌≡◌, ◌≤◌, ◌++◌, length, map, IfOk, OnOk, IsTrue, slice_get, string_bytes};
+ghost use Rattle.std.specs.Prelude.{ℕ, ◌≡◌, ◌<◌, ◌≤◌, ◌++◌, length, map, IfOk, IfNone, IfSome, OnOk, IsTrue, slice_get, string_bytes};
 ghost use Rattle.std.specs.List.{flat_map};
 ghost use Rattle.spl_values.specs.Shapes.{ColumnParts};
-ghost use Rattle.query_reader.specs.Params.{atom_marks as marks_of_atom, marks_of, count_fault, word_code as code_of_word, params_of_words as params_in_words, Answers, AreParamsFor, Counts, IsCodeIn, TakesCodes};
+ghost use Rattle.query_reader.specs.Params.{atom_marks as marks_of_atom, marks_of, count_fault, word_code as code_of_word, word_codes as codes_in_words, params_of_words as params_in_words, Answers, AreParamsFor, Counts, IsCodeAt, IsCodeIn, TakesCodes};
 ghost use Rattle.query_reader.specs.Accepted.{IsCheckedFor};
 ghost use Rattle.query_reader.specs.declared.params.ParamFault.TheVariants.{OutOfMemory as ParamOutOfMemory};
 
@@ -138,6 +138,24 @@ fn word_code(schema: &Schema, number: u32, place: u32, word: &str) -> Result<u12
     }
 }
 
+/// The codes of as many words as there are places, or the first fault.
+fn codes_at(
+    alloc: Global,
+    schema: &Schema,
+    marks: &[u32],
+    words: &[String],
+) -> Result<Params, ParamFault>
+    requires few { length marks.now ≤ 255 }
+    requires same { length marks.now ≡ length words.now }
+    ensures { Answers result (codes_in_words 0 schema.now marks.now (map string_bytes words.now)) }
+{
+    let mut codes = Vec::new(alloc);
+    for (i, place) in marks.iter().enumerate() {
+        codes.push(word_code(schema, i as u32, *place, words[i].as_str())?)?;
+    }
+    Ok(Params::from_vec(codes))
+}
+
 /// The codes of the parameters that are words.
 fn codes_of_words(
     alloc: Global,
@@ -149,12 +167,7 @@ fn codes_of_words(
 {
     let marks = marks(alloc, schema, query.branches.as_slice())?;
     check_count(marks.len(), words.len())?;
-    let mut codes = Vec::new(alloc);
-    for (i, place) in marks.iter().enumerate() {
-        let code = word_code(schema, i as u32, *place, words[i].as_str())?;
-        codes.push(code)?;
-    }
-    Ok(Params::from_vec(codes))
+    codes_at(alloc, schema, &marks, words)
 }
 
 /// The codes of the parameters, given as words as a user writes them.
@@ -190,6 +203,20 @@ fn is_code(schema: &Schema, place: u32, code: u128) -> bool
     }
 }
 
+/// The first code, from 0, that no value of the column at its place has.
+fn first_bad_code(schema: &Schema, marks: &[u32], codes: &[u128]) -> Option<usize>
+    requires { length marks.now ≡ length codes.now }
+    ensures none { IfNone result ((k : ℕ) → k < length codes.now → IsCodeAt schema.now marks.now codes.now k) }
+    ensures first { IfSome result (λ i. (i < length codes.now) × ((k : ℕ) → k < i → IsCodeAt schema.now marks.now codes.now k) × (IsCodeAt schema.now marks.now codes.now i → ⊥)) }
+{
+    for (i, place) in marks.iter().enumerate() {
+        if !is_code(schema, *place, codes[i]) {
+            return Some(i);
+        }
+    }
+    None
+}
+
 /// The parameters that are codes, where each is one.
 fn codes_of_codes(
     alloc: Global,
@@ -201,12 +228,10 @@ fn codes_of_codes(
 {
     let marks = marks(alloc, schema, query.branches.as_slice())?;
     check_count(marks.len(), codes.len())?;
-    for (i, place) in marks.iter().enumerate() {
-        if !is_code(schema, *place, codes[i]) {
-            return Err(ParamFault::BadCode(i as u32));
-        }
+    match first_bad_code(schema, &marks, codes) {
+        Some(i) => Err(ParamFault::BadCode(i as u32)),
+        None => Ok(Params::from_vec(codes.to_vec(alloc)?)),
     }
-    Ok(Params::from_vec(codes.to_vec(alloc)?))
 }
 
 /// The parameters, given as codes.
