@@ -3,7 +3,7 @@ use Rattle.std.proofs.Common.{◌≡◌, ℕ, suc, ◌+◌, ◌≤◌, List, [],
 use Rattle.std.specs.List.{AllByRecursion, position}
 use Rattle.spl_words.specs.declared.provider.Provider.{Provider}
 use Rattle.spl_words.specs.declared.secret.TreeKind.{TreeKind}
-use Rattle.spl_words.specs.Secrets.{Secret}
+use Rattle.spl_words.specs.Secrets.{Secret, secret_tree}
 use Rattle.spl_values.specs.Shapes.{ShapeParts}
 use Rattle.seed_expansion.specs.Expanders.{Meaning}
 use Rattle.key_frames.specs.Keys.{KeyAllowed}
@@ -11,13 +11,13 @@ use Rattle.key_frames.specs.Frames.{FrameAllowed}
 use Rattle.key_frames.specs.Texts.{is_bad}
 use Rattle.key_frames.specs.Trees.{key_of, key_list}
 use Rattle.session_model.specs.Sessions.{frame_of}
-use Rattle.session_model.proofs.KeyTrees.{depth_same}
-use Rattle.client_rounds.proofs.Trees.{HasDepth}
+use Rattle.key_frames.proofs.TreeLaws.{depth_same}
+use Rattle.private_plan.proofs.FirstTrees.{HasDepth}
 
-key_allowed : (kind : TreeKind) (e : Meaning) (p : Provider) (tree : ℕ) (s : Secret) (roots : ℕ × ℕ) → HasDepth s → KeyAllowed (key_of kind e p tree s roots)
+key_allowed : (kind : TreeKind) (e : Meaning) (p : Provider) (tree : ℕ) (s : Secret) (roots : ℕ × ℕ) → HasDepth (secret_tree s) → KeyAllowed (key_of kind e p tree s roots)
 key_allowed kind e p tree s roots h = let same = depth_same kind e p tree s roots in record { some = omega (arith, same, h.some); count = omega (arith, same, h.most) }
 
-pub keys_allowed : (e : Meaning) (p : Provider) (tree : ℕ) (ss : List Secret) (rs : List (ℕ × ℕ)) → AllByRecursion HasDepth ss → AllByRecursion KeyAllowed (key_list e p tree ss rs)
+pub keys_allowed : (e : Meaning) (p : Provider) (tree : ℕ) (ss : List Secret) (rs : List (ℕ × ℕ)) → AllByRecursion (λ s. HasDepth (secret_tree s)) ss → AllByRecursion KeyAllowed (key_list e p tree ss rs)
 unfolding key_list
 keys_allowed e p tree [] rs h = tt
 keys_allowed e p tree (s ∷ ss) [] h = tt
@@ -35,7 +35,7 @@ pub record MayBeWritten (number : ℕ) (query : List ℕ) (secrets : List Secret
   pub query_length : (1 ≤ length query) × (length query ≤ 4096)
   pub printable : position is_bad query ≡ None
   pub trees : (1 ≤ length secrets) × (length secrets ≤ 512)
-  pub depths : AllByRecursion HasDepth secrets
+  pub depths : AllByRecursion (λ s. HasDepth (secret_tree s)) secrets
   pub same : length roots ≡ length secrets
 
 pub frame_allowed : (e : Meaning) (p : Provider) (session round tree : ℕ) (query : List ℕ) (shape : ShapeParts) (secrets : List Secret) (roots : List (ℕ × ℕ)) → MayBeWritten round query secrets roots

@@ -13,7 +13,7 @@ use Rattle.key_frames.specs.declared.note.Note.{Note}
 use Rattle.key_frames.specs.Frames.{KeyFrameOf}
 use Rattle.key_frames.specs.Notes.{NoteOf}
 use Rattle.private_plan.specs.Plans.{plan_of}
-use Rattle.private_plan.specs.Slots.{sum_secrets}
+use Rattle.private_plan.specs.Rounds.{first_round, secrets_in}
 use Rattle.session_model.specs.Draws.{wide, tree_roots, roots_of}
 use Rattle.session_model.specs.Sessions.{frame_of, session_roots, key_frame, key_bytes, note, note_bytes}
 use Rattle.client_rounds.specs.Rounds.{IsRoundOf}
@@ -59,7 +59,7 @@ pub record Begun (e : Meaning) (checked : Checked) (table : ShapeParts) (params 
   pub session_is : session ≡ wide words
   pub query_is : query ≡ canonical_text checked.query
   pub shape_is : shape ≡ table
-  pub secrets_are : secrets ≡ sum_secrets checked table.schema.columns params
+  pub secrets_are : secrets ≡ secrets_in checked table params first_round
   pub roots_are : roots ≡ session_roots secrets words
 
 module _ (e : Meaning) (checked : Checked) (table : ShapeParts) (params words : List ℕ) (session : ℕ) (query : List ℕ) (shape : ShapeParts) (secrets : List Secret) (roots : List (ℕ × ℕ))

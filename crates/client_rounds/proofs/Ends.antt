@@ -10,6 +10,7 @@ use Rattle.sha2.proofs.Facts256.{length-sha256}
 use Rattle.spl_words.specs.declared.provider.Provider.{Provider}
 use Rattle.spl_words.specs.declared.provider.Provider.TheVariants.{Zero, One}
 use Rattle.spl_words.specs.Words.{plus}
+use Rattle.spl_words.specs.Folds.{fold_word, fold_words}
 use Rattle.spl_values.specs.Shapes.{SchemaParts}
 use Rattle.spl_values.specs.Tables.{TableParts, IsTable}
 use Rattle.cell_merge.specs.Rows.{Apart}
@@ -19,6 +20,7 @@ use Rattle.cell_merge.proofs.Labels.{Apart-filter}
 use Rattle.cell_merge.proofs.Lists.{length-filter-le}
 use Rattle.cell_merge.proofs.RowCells.{rows_apart}
 use Rattle.seed_expansion.specs.Expanders.{Meaning, IsPure}
+use Rattle.query_grammar.specs.Canonical.{IsQuery}
 use Rattle.query_grammar.specs.Queries.{QueryParts}
 use Rattle.query_tokens.specs.Printing.{IsWellFormed, canonical_text}
 use Rattle.query_reader.specs.declared.checked.Checked.{Checked}
@@ -37,16 +39,17 @@ use Rattle.clear_sql.proofs.MatchingCells.{matching_clear, length-rows_of}
 use Rattle.count_sum.specs.SumPairs.{sum_pairs}
 use Rattle.private_plan.specs.declared.plans.PlanKind.TheVariants as kind
 use Rattle.private_plan.specs.Plans.{is_sum, kind_for, last_bits, plan_of}
-use Rattle.private_plan.specs.Slots.{sum_secrets}
+use Rattle.private_plan.specs.Rounds.{first_round, secrets_in}
+use Rattle.private_plan.proofs.Accepted.{secrets_laid}
 use Rattle.answer_frames.specs.declared.answer.AnswerFrame.{AnswerFrame}
 use Rattle.answer_frames.specs.Spelling.{AnswerOf}
 use Rattle.key_frames.specs.Notes.{NoteOf}
 use Rattle.session_model.specs.Draws.{wide, roots_of}
-use Rattle.key_frames.specs.Trees.{key_list, key_shares}
-use Rattle.session_model.specs.Providers.{weighted_word}
-use Rattle.session_model.specs.Answers.{answer_word, answer_frame}
+use Rattle.key_frames.specs.Trees.{key_list, key_shares, key_tree}
+use Rattle.key_frames.proofs.TreeLaws.{trees_same}
+use Rattle.session_model.specs.Answers.{answer_frame}
 use Rattle.session_model.specs.Sessions.{session_roots, key_frame, key_bytes, round_answer, note, note_bytes, clear_text}
-use Rattle.session_model.proofs.Answers.{answers_add}
+use Rattle.session_model.proofs.Answers.{answers_add, one_fold, sum_kind}
 use Rattle.session_model.proofs.CellSums.{length-cell}
 use Rattle.combiner.specs.Combining.{added, combined}
 use Rattle.combiner.specs.Finals.{last_words, final_of}
@@ -90,24 +93,39 @@ length-roots_of (suc n) words = let more = length-roots_of n (drop 4 words) in o
 -- ---- answers
 
 module _ (e : Meaning) (checked : Checked) (table : TableParts) (params drawn : List ℕ) where
-  pub length-answer : (p : Provider) → length (answer_frame e p (key_bytes e p checked table.shape params drawn) (key_frame e p checked table.shape params drawn) checked table).words ≡ cell_width checked.spec
-  length-answer p = length-map (range_with_len 0 (cell_width checked.spec)) _ ∙ length-range_with_len 0 (cell_width checked.spec)
+  -- the keys of a first round are those of the plan
+  keys_count : (p : Provider) → IsCheckedFor checked table.shape.schema → IsQuery checked.query → AreParamsFor checked table.shape.schema params
+      → length (key_frame e p checked table.shape params drawn).keys ≡ length (plan_of checked table.shape).first
+  keys_count p accepted form known =
+      let asked = secrets_in checked table.shape params first_round in
+      let trees = trees_same e p 0 asked (session_roots asked drawn) (length-roots_of (length asked) (drop 2 drawn)) in
+      sym (length-map (key_frame e p checked table.shape params drawn).keys key_tree) ∙ ap length (trees ∙ secrets_laid checked table.shape params accepted form known)
 
-  pub answer_spelled : (p : Provider) → IsTable table → IsCheckedFor checked table.shape.schema → wide drawn < 2 ^ 128
+  -- the words of an answer are those of one fold
+  pub words_are : (p : Provider) → IsCheckedFor checked table.shape.schema → IsQuery checked.query → AreParamsFor checked table.shape.schema params → list_all is_sum checked.spec.items ≡ true
+      → (answer_frame e p (key_bytes e p checked table.shape params drawn) (key_frame e p checked table.shape params drawn) checked table).words
+      ≡ fold_words (key_shares e p 0 (key_frame e p checked table.shape params drawn).keys) (sum_pairs checked table) (cell_width checked.spec)
+  words_are p accepted form known sums = one_fold e p 1 (key_frame e p checked table.shape params drawn).keys checked table (sum_kind checked table sums) refl (keys_count p accepted form known)
+
+  pub length-answer : (p : Provider) → IsCheckedFor checked table.shape.schema → IsQuery checked.query → AreParamsFor checked table.shape.schema params → list_all is_sum checked.spec.items ≡ true → length (answer_frame e p (key_bytes e p checked table.shape params drawn) (key_frame e p checked table.shape params drawn) checked table).words ≡ cell_width checked.spec
+  length-answer p accepted form known sums =
+      ap length (words_are p accepted form known sums) ∙ (length-map (range_with_len 0 (cell_width checked.spec)) _ ∙ length-range_with_len 0 (cell_width checked.spec))
+
+  pub answer_spelled : (p : Provider) → IsTable table → IsCheckedFor checked table.shape.schema → IsQuery checked.query → AreParamsFor checked table.shape.schema params → list_all is_sum checked.spec.items ≡ true → wide drawn < 2 ^ 128
       → AnswerOf (round_answer e p checked table params drawn) (answer_frame e p (key_bytes e p checked table.shape params drawn) (key_frame e p checked table.shape params drawn) checked table)
-  answer_spelled p valid accepted small =
+  answer_spelled p valid accepted form known sums small =
       let frame = key_frame e p checked table.shape params drawn in
-      let f = λ (k : ℕ). weighted_word (key_shares e p 0 frame.keys) k (sum_pairs checked table) in
+      let f = fold_word (key_shares e p 0 frame.keys) (sum_pairs checked table) in
       let some = block_fits checked.spec table.shape.schema.columns valid.shape.schema.columns (checked_fits checked table.shape.schema accepted) in
       let most = checked_width checked table.shape.schema accepted in
-      let count = length-answer p in
+      let count = length-answer p accepted form known sums in
       record {
         allowed = record { round = omega arith; round_end = omega arith; some = omega (arith, some, count); count = omega (arith, most, count) };
         typed = record {
           session = small;
           key = (length-sha256 (key_bytes e p checked table.shape params drawn), sha256_small (key_bytes e p checked table.shape params drawn));
           table = (length-sha256 _, sha256_small _);
-          words = each_small f (λ k. omega arith) (range_with_len 0 (cell_width checked.spec));
+          words = rw (words_are p accepted form known sums) (each_small f (λ k. omega arith) (range_with_len 0 (cell_width checked.spec)));
         };
         spelled = refl;
       }
@@ -152,22 +170,22 @@ module _ (e : Meaning) (pure : IsPure e) (checked : Checked) (table : TableParts
       ≡ cell (adds_in table.shape.schema.columns) checked.spec (matching_rows checked params table)
   words_add =
       let columns = table.shape.schema.columns in
-      let roots = session_roots (sum_secrets checked columns params) drawn in
+      let roots = session_roots (secrets_in checked table.shape params first_round) drawn in
       let w = cell_width checked.spec in
-      let f = answer_word e Zero checked (key_list e Zero 0 (sum_secrets checked columns params) roots) table in
-      let g = answer_word e One checked (key_list e One 0 (sum_secrets checked columns params) roots) table in
+      let f = fold_word (key_shares e Zero 0 (key_list e Zero 0 (secrets_in checked table.shape params first_round) roots)) (sum_pairs checked table) in
+      let g = fold_word (key_shares e One 0 (key_list e One 0 (secrets_in checked table.shape params first_round) roots)) (sum_pairs checked table) in
       let rows = matching_rows checked params table in
       let all = cell (adds_in columns) checked.spec rows in
       let wide_enough : length all ≡ w = length-cell (adds_in columns) checked.spec rows in
       let small = cell_small (adds_in columns) checked.spec rows sums (omega (arith, few_rows checked params table valid, valid.shape.few)) in
-      let same = length-roots_of (length (sum_secrets checked columns params)) (drop 2 drawn) in
+      let same = length-roots_of (length (secrets_in checked table.shape params first_round)) (drop 2 drawn) in
       let each : (k : ℕ) → k < length all → plus (f (0 + k)) (g (0 + k)) ≡ slice_index all k =
       λ k here.
       let start : 0 + k ≡ k = omega arith in
       ap (λ (i : ℕ). plus (f i) (g i)) start
       ∙ answers_add e pure checked table params roots valid accepted form.form known sums same k (omega (arith, here, wide_enough))
       ∙ mod-eq_of_lt (word_small all k small here) in
-      rw (added-map f g (range_with_len 0 w), sym wide_enough) (listed (λ k. plus (f k) (g k)) 0 all each)
+      rw (words_are e checked table params drawn Zero accepted form.form known sums, words_are e checked table params drawn One accepted form.form known sums, added-map f g (range_with_len 0 w), sym wide_enough) (listed (λ k. plus (f k) (g k)) 0 all each)
 
   -- what the note says
   abbrev judged : Judged
@@ -188,7 +206,7 @@ module _ (e : Meaning) (pure : IsPure e) (checked : Checked) (table : TableParts
       let built = kind_of_sums (list_all is_sum checked.spec.items) checked.range (last_bits table.shape.schema.columns checked.columns) sums in
       let n = words_of_plan checked table.shape built in
       combined_agreed (note e checked table.shape params drawn) (answer_by Zero) (answer_by One) (last_words (plan_of checked table.shape)) refl refl refl refl refl refl refl refl
-      (n ∙ sym (length-answer e checked table params drawn Zero)) (n ∙ sym (length-answer e checked table params drawn One)) refl refl
+      (n ∙ sym (length-answer e checked table params drawn Zero accepted form.form known sums)) (n ∙ sym (length-answer e checked table params drawn One accepted form.form known sums)) refl refl
       ∙ ap (λ (words : List ℕ). Ok words) words_add
 
   final_are : final_of checked table.shape (cell (adds_in table.shape.schema.columns) checked.spec (matching_rows checked params table)) ≡ Ok (clear table.shape.schema.columns checked.spec (matching_rows checked params table))
@@ -209,13 +227,13 @@ module _ (e : Meaning) (pure : IsPure e) (checked : Checked) (table : TableParts
   pub ends : finished (note_bytes e checked table.shape params drawn) (round_answer e Zero checked table params drawn) (round_answer e One checked table params drawn) ≡ Ok (clear_text checked params table)
   ends =
       finished_is (note_bytes e checked table.shape params drawn) (round_answer e Zero checked table params drawn) (round_answer e One checked table params drawn) judged (answer_by Zero) (answer_by One) (clear_text checked params table)
-      note_is (answer_read source.First (round_answer e Zero checked table params drawn) (answer_by Zero) (answer_spelled e checked table params drawn Zero valid accepted spelled.typed.session))
-      (answer_read source.Second (round_answer e One checked table params drawn) (answer_by One) (answer_spelled e checked table params drawn One valid accepted spelled.typed.session))
+      note_is (answer_read source.First (round_answer e Zero checked table params drawn) (answer_by Zero) (answer_spelled e checked table params drawn Zero valid accepted form.form known sums spelled.typed.session))
+      (answer_read source.Second (round_answer e One checked table params drawn) (answer_by One) (answer_spelled e checked table params drawn One valid accepted form.form known sums spelled.typed.session))
       (text_is (answer_by Zero) (answer_by One) both_are)
 
   pub ends_exchanged : finished (note_bytes e checked table.shape params drawn) (round_answer e One checked table params drawn) (round_answer e Zero checked table params drawn) ≡ Ok (clear_text checked params table)
   ends_exchanged =
       finished_is (note_bytes e checked table.shape params drawn) (round_answer e One checked table params drawn) (round_answer e Zero checked table params drawn) judged (answer_by One) (answer_by Zero) (clear_text checked params table)
-      note_is (answer_read source.First (round_answer e One checked table params drawn) (answer_by One) (answer_spelled e checked table params drawn One valid accepted spelled.typed.session))
-      (answer_read source.Second (round_answer e Zero checked table params drawn) (answer_by Zero) (answer_spelled e checked table params drawn Zero valid accepted spelled.typed.session))
+      note_is (answer_read source.First (round_answer e One checked table params drawn) (answer_by One) (answer_spelled e checked table params drawn One valid accepted form.form known sums spelled.typed.session))
+      (answer_read source.Second (round_answer e Zero checked table params drawn) (answer_by Zero) (answer_spelled e checked table params drawn Zero valid accepted form.form known sums spelled.typed.session))
       (text_is (answer_by One) (answer_by Zero) (combined_either (note e checked table.shape params drawn) (answer_by One) (answer_by Zero) (last_words (plan_of checked table.shape)) ∙ both_are))

@@ -1,7 +1,7 @@
 pub mod Drawing
 pub mod KeyLoop
 pub mod Printable
-pub mod Trees
+pub mod Params
 pub mod Allowed
 pub mod Written
 pub mod Seeds

@@ -35,7 +35,7 @@ use Rattle.query_reader.specs.Params.{HasBits, param_columns}
 use Rattle.key_frames.specs.Keys.{CorrectionTyped, LevelTyped, KeyTyped}
 use Rattle.key_frames.specs.Frames.{KeyFrameOf}
 use Rattle.key_frames.specs.Notes.{NoteOf}
-use Rattle.private_plan.specs.Slots.{sum_secrets}
+use Rattle.private_plan.specs.Rounds.{first_round, secrets_in}
 use Rattle.session_model.specs.Draws.{wide, roots_of}
 use Rattle.key_frames.specs.Trees.{key_of, key_list}
 use Rattle.session_model.specs.Sessions.{session_roots, key_frame, key_bytes, note, note_bytes}
@@ -193,7 +193,7 @@ pub frame_spelled : (e : Meaning) → GivesSeeds e → (p : Provider) (checked :
     → KeyFrameOf (key_bytes e p checked shape params words) (key_frame e p checked shape params words)
 unfolding key_bytes
 frame_spelled e gives p checked shape params words asked are =
-    let secrets = sum_secrets checked shape.schema.columns params in
+    let secrets = secrets_in checked shape params first_round in
     record {
       allowed = key_frame_allowed e p checked shape params words asked;
       typed = record {

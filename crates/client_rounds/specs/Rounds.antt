@@ -10,13 +10,13 @@ use Rattle.key_frames.specs.Frames.{KeyFrameOf}
 use Rattle.key_frames.specs.Notes.{NoteOf}
 use Rattle.private_plan.specs.Lengths.{frame_length}
 use Rattle.private_plan.specs.Plans.{plan_of}
-use Rattle.private_plan.specs.Slots.{sum_secrets}
+use Rattle.private_plan.specs.Rounds.{first_round, secrets_in}
 use Rattle.session_model.specs.Sessions.{key_frame, key_bytes, note, note_bytes}
 use Rattle.client_rounds.specs.declared.starting.RoundOut.{RoundOut}
 
 -- how many words the round takes: two for the session's number, and four for each tree
 abbrev pub words_taken : Checked → ShapeParts → List ℕ → ℕ
-words_taken checked shape params = 2 + 4 * length (sum_secrets checked shape.schema.columns params)
+words_taken checked shape params = 2 + 4 * length (secrets_in checked shape params first_round)
 
 -- how many bytes each of its key frames has, as the plan tells it from the lengths of the query's text and the shape's
 abbrev pub round_length : Checked → ShapeParts → ℕ

@@ -26,7 +26,7 @@ ghost use Rattle.answer_frames.specs.Reading.{fields_at};
 ghost use Rattle.answer_frames.specs.Spelling.{AnswerOf};
 ghost use Rattle.private_plan.specs.declared.plans.PlanKind.TheVariants as kind;
 ghost use Rattle.private_plan.specs.Plans.{is_sum, kind_of};
-ghost use Rattle.private_plan.specs.Slots.{sum_secrets};
+ghost use Rattle.private_plan.specs.Rounds.{first_round, secrets_in};
 ghost use Rattle.session_model.specs.Answers.{answer_frame};
 ghost use Rattle.session_model.specs.Sessions.{key_frame, key_bytes, note, note_bytes, round_answer, clear_text};
 ghost use Rattle.client_rounds.specs.Asked.{IsAsked};
@@ -48,14 +48,14 @@ pub fn sum_plan_has_sums()
     ensures { (checked : TheChecked) (columns : List ColumnParts) → kind_of checked columns ≡ kind.Sum → list_all is_sum checked.spec.items ≡ true }
 {}
 
-/// A query of counts, sums and means asks for 1 to 16 trees.
-pub fn sums_ask_for_few_trees()
-    ensures { (checked : TheChecked) (shape : ShapeParts) (params : List ℕ) → IsAsked checked shape params → (1 ≤ length (sum_secrets checked shape.schema.columns params)) × (length (sum_secrets checked shape.schema.columns params) ≤ 16) }
+/// A first round asks for 1 to 256 trees.
+pub fn first_rounds_ask_for_few_trees()
+    ensures { (checked : TheChecked) (shape : ShapeParts) (params : List ℕ) → IsAsked checked shape params → (1 ≤ length (secrets_in checked shape params first_round)) × (length (secrets_in checked shape params first_round) ≤ 256) }
 {}
 
 /// A key frame of a first round has as many bytes as the plan tells, whichever words were drawn.
 pub fn key_frames_are_as_long_as_planned()
-    ensures { (e : Meaning) (p : TheProvider) (checked : TheChecked) (shape : ShapeParts) (params words bytes : List ℕ) → IsAsked checked shape params → list_all is_sum checked.spec.items ≡ true
+    ensures { (e : Meaning) (p : TheProvider) (checked : TheChecked) (shape : ShapeParts) (params words bytes : List ℕ) → IsAsked checked shape params
         → KeyFrameOf bytes (key_frame e p checked shape params words) → length bytes ≡ round_length checked shape }
 {}
 
@@ -92,9 +92,9 @@ pub fn spelled_frames_are_read()
     ensures answer { (bytes : List ℕ) (a : AnswerFrame) → AnswerOf bytes a → frame_at fields_at bytes ≡ Ok a }
 {}
 
-/// What a provider answers to its key frame of a first round is the spelling of an answer frame.
+/// What a provider answers to its key frame of a first round of counts, sums and means is the spelling of an answer frame.
 pub fn answers_are_spelled()
-    ensures { (e : Meaning) (p : TheProvider) (checked : TheChecked) (table : TableParts) (params drawn : List ℕ) → IsTable table → IsCheckedFor checked table.shape.schema → AllByRecursion (λ w. w < 2 ^ 64) drawn
+    ensures { (e : Meaning) (p : TheProvider) (checked : TheChecked) (table : TableParts) (params drawn : List ℕ) → IsTable table → IsAsked checked table.shape params → list_all is_sum checked.spec.items ≡ true → AllByRecursion (λ w. w < 2 ^ 64) drawn
         → AnswerOf (round_answer e p checked table params drawn) (answer_frame e p (key_bytes e p checked table.shape params drawn) (key_frame e p checked table.shape params drawn) checked table) }
 {}
 

@@ -9,7 +9,7 @@ ghost use Rattle.key_frames.specs.Frames.{FrameAllowed, KeyFrameOf};
 ghost use Rattle.key_frames.specs.Notes.{NoteOf};
 ghost use Rattle.key_frames.specs.Texts.{is_bad};
 ghost use Rattle.private_plan.specs.Plans.{is_sum, plan_of};
-ghost use Rattle.private_plan.specs.Slots.{sum_secrets};
+ghost use Rattle.private_plan.specs.Rounds.{first_round, secrets_in};
 ghost use Rattle.session_model.specs.Draws.{wide};
 ghost use Rattle.session_model.specs.Sessions.{session_roots};
 ghost use Rattle.client_rounds.specs.Draws.{Draws};
@@ -94,7 +94,7 @@ fn round_with<E: Expander>(
     requires params { AreParamsFor checked.now shape.now.schema params.now }
     requires few { length params.now ≤ 255 }
     requires plan { plan.now ≡ plan_of checked.now shape.now }
-    requires secrets { secrets.now ≡ sum_secrets checked.now shape.now.schema.columns params.now }
+    requires secrets { secrets.now ≡ secrets_in checked.now shape.now params.now first_round }
     requires roots { length drawn.now.roots ≡ length secrets.now }
     ensures { IfOk result (λ out. (words : List ℕ) → drawn.now.session ≡ wide words → drawn.now.roots ≡ session_roots secrets.now words → IsRoundOf (E.meaning expander.now) checked.now shape.now params.now words out) }
 {

@@ -1,20 +1,27 @@
 -- The trees of a plan's first round, and of its secrets: how many there are, and how deep.
-use Rattle.std.proofs.Common.{◌≡◌, ℕ, zero, suc, ◌+◌, ◌-◌, ◌*◌, ◌<◌, ◌≤◌, Bool, true, false, List, [], ◌∷◌, ◌++◌, length, map, replicate, refl, sym, ap, subst, ◌∙◌, arith}
-use Rattle.std.specs.List.{AllByRecursion, flat_map, range_with_len}
+use Rattle.std.proofs.Common.{◌≡◌, ℕ, zero, suc, ◌+◌, ◌-◌, ◌*◌, ◌<◌, ◌≤◌, Bool, true, false, List, [], ◌∷◌, ◌++◌, length, get_or, map, replicate, refl, sym, ap, subst, ◌∙◌, arith}
+use Rattle.std.specs.Prelude.{All, IsTrue, nat_le, if◌then◌else◌}
+use Rattle.std.specs.List.{AllByRecursion, flat_map, list_all, range_with_len}
+use Rattle.std.proofs.lemmas.Bool.Decides.{nat_tests}
+use Rattle.std.proofs.lemmas.List.Elements.{All-head, All-tail}
 use Rattle.std.proofs.lemmas.List.{length-map}
 use Rattle.std.proofs.Math.Nat.{mul-le-mul_right}
 use Rattle.spl_words.specs.declared.secret.KeySpec.{KeySpec}
 use Rattle.spl_words.specs.declared.secret.TreeKind.TheVariants.{Point}
 use Rattle.spl_words.specs.Secrets.{Secret, secret_tree}
-use Rattle.spl_values.specs.Shapes.{ShapeParts, IsSchema}
+use Rattle.spl_values.specs.Kinds.{is_kind, bits_of}
+use Rattle.spl_values.specs.Shapes.{ColumnParts, ShapeParts, IsColumn, IsSchema}
+use Rattle.spl_values.specs.Tables.{column_bits}
+use Rattle.spl_values.specs.declared.kinds.ColumnType.{ColumnType}
+use Rattle.spl_values.specs.declared.kinds.ColumnType.TheVariants.{Uint, Text, Enum}
 use Rattle.query_grammar.specs.Canonical.{IsQuery}
 use Rattle.query_reader.specs.declared.checked.Checked.{Checked}
 use Rattle.query_reader.specs.Accepted.{IsCheckedFor}
 use Rattle.query_reader.specs.Params.{AreParamsFor}
-use Rattle.query_reader.proofs.Known.{checked_bits, checked_some, checked_branches, checked_narrow, checked_least}
+use Rattle.query_reader.proofs.Known.{checked_bits, checked_columns, checked_some, checked_branches, checked_narrow, checked_least}
 use Rattle.private_plan.specs.declared.plans.PlanKind.{PlanKind}
 use Rattle.private_plan.specs.declared.plans.PlanKind.TheVariants as kind
-use Rattle.private_plan.specs.Plans.{kind_of, last_bits, plan_of, slot_trees, tree}
+use Rattle.private_plan.specs.Plans.{is_sum, kind_for, kind_of, last_bits, plan_of, slot_trees, tree}
 use Rattle.private_plan.specs.Rounds.{first_round, secrets_in}
 use Rattle.private_plan.proofs.Accepted.{secrets_laid}
 use Rattle.private_plan.proofs.Counts.{last_in_key, length-levels, length-slots}
@@ -60,6 +67,29 @@ module _ (n w : ℕ) (some : 1 ≤ n) (most : n ≤ 128) (inside : w ≤ n) wher
   slot_most kind.Aligned range narrow = let least = narrow refl in omega (arith, length-levels n w, least)
   slot_most kind.Position range narrow = omega arith
 
+-- ---- the last column of a key
+
+some_bits : (kind : ColumnType) → IsTrue (is_kind kind) → 1 ≤ bits_of kind
+some_bits (Uint b) h = grind (arith, nat_tests)
+some_bits (Text k) h = grind (arith, nat_tests)
+some_bits (Enum labels) h = grind (arith, nat_tests)
+
+column_some : (cs : List ColumnParts) (i : ℕ) → All IsColumn cs → i < length cs → 1 ≤ column_bits cs i
+unfolding column_bits
+column_some [] i typed h = absurd (omega (arith, h))
+column_some (c ∷ cs) zero typed h = some_bits c.kind (All-head IsColumn c cs typed).typed
+column_some (c ∷ cs) (suc i) typed h = column_some cs i (All-tail IsColumn c cs typed) (omega (arith, h))
+
+narrow_kind : (sums range : Bool) (w : ℕ) → kind_for sums range w ≡ kind.Aligned → w ≤ 16
+narrow_kind true range w is = absurd cc
+narrow_kind false false w is = absurd cc
+narrow_kind false true w is = by_test (nat_le w 16) refl is where
+  by_test : (b : Bool) → nat_le w 16 ≡ b → (if b then kind.Aligned else kind.Position) ≡ kind.Aligned → w ≤ 16
+  by_test true e is = grind (arith, nat_tests)
+  by_test false e is = absurd cc
+
+-- ---- how many
+
 times_some : (a b : ℕ) → 1 ≤ a → 1 ≤ b → 1 ≤ a * b
 times_some (suc a) (suc b) h i = omega arith
 times_some zero b h i = absurd (omega arith)
@@ -82,6 +112,12 @@ module _ (checked : Checked) (shape : ShapeParts) (params : List ℕ) (h : IsChe
   count_same : AreParamsFor checked shape.schema params → length secrets ≡ length (plan_of checked shape).first
   count_same are = sym (length-map secrets secret_tree) ∙ ap length (secrets_laid checked shape params h q are)
 
+  last_some : IsSchema shape.schema → 1 ≤ last_bits shape.schema.columns checked.columns
+  last_some schema =
+      let places = checked.columns in
+      let some = checked_some checked shape.schema h q in
+      column_some shape.schema.columns (get_or places (length places - 1) 0) schema.columns (checked_columns checked shape.schema h (length places - 1) 0 (omega (arith, some)))
+
   -- each tree of a first round has 1 to 128 levels
   pub secret_depths : AreParamsFor checked shape.schema params → IsSchema shape.schema → AllByRecursion (λ s. HasDepth (secret_tree s)) secrets
   secret_depths are schema =
@@ -91,9 +127,8 @@ module _ (checked : Checked) (shape : ShapeParts) (params : List ℕ) (h : IsChe
       of_trees secrets (subst (λ ts. AllByRecursion HasDepth ts) (sym (secrets_laid checked shape params h q are)) deep)
 
   -- and there are 1 to 256 of them
-  pub secret_count : AreParamsFor checked shape.schema params → IsSchema shape.schema → (kind_of checked shape.schema.columns ≡ kind.Aligned → (1 ≤ last_bits shape.schema.columns checked.columns) × (last_bits shape.schema.columns checked.columns ≤ 16))
-      → (1 ≤ length secrets) × (length secrets ≤ 256)
-  secret_count are schema wide =
+  pub secret_count : AreParamsFor checked shape.schema params → IsSchema shape.schema → (1 ≤ length secrets) × (length secrets ≤ 256)
+  secret_count are schema =
       let n = checked.bits in
       let w = last_bits shape.schema.columns checked.columns in
       let k = kind_of checked shape.schema.columns in
@@ -101,6 +136,6 @@ module _ (checked : Checked) (shape : ShapeParts) (params : List ℕ) (h : IsChe
       let narrow = checked_narrow checked shape.schema h in
       let branches = checked_branches checked shape.schema h in
       let count = count_same are ∙ length-slots checked.branches (slot_trees k checked.range n w) in
-      let some = times_some checked.branches (length (slot_trees k checked.range n w)) branches.0 (slot_some n w least narrow last_inside k checked.range (λ e. (wide e).0)) in
-      let most = times_most checked.branches (length (slot_trees k checked.range n w)) branches.1 (slot_most n w least narrow last_inside k checked.range (λ e. (wide e).1)) in
+      let some = times_some checked.branches (length (slot_trees k checked.range n w)) branches.0 (slot_some n w least narrow last_inside k checked.range (λ e. last_some schema)) in
+      let most = times_most checked.branches (length (slot_trees k checked.range n w)) branches.1 (slot_most n w least narrow last_inside k checked.range (λ e. narrow_kind (list_all is_sum checked.spec.items) checked.range w e)) in
       (omega (arith, count, some), omega (arith, count, most))

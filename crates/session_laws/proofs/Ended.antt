@@ -1,5 +1,6 @@
 -- A session whose keys both providers answer ends with the clear answer.
-use Rattle.std.proofs.Common.{◌≡◌, ℕ, List, Result, Ok, sym, ap, subst, ◌∙◌}
+use Rattle.std.specs.List.{list_all}
+use Rattle.std.proofs.Common.{◌≡◌, ℕ, true, List, Result, Ok, sym, ap, subst, ◌∙◌}
 use Rattle.spl_words.specs.declared.provider.Provider.{Provider}
 use Rattle.spl_words.specs.declared.provider.Provider.TheVariants.{Zero, One}
 use Rattle.spl_values.specs.Tables.{TableParts, IsTable}
@@ -11,6 +12,7 @@ use Rattle.query_reader.proofs.Codes.{answered_known}
 use Rattle.judged_queries.specs.Queries.{checked_in}
 use Rattle.key_frames.specs.Frames.{KeyFrameOf}
 use Rattle.answer_frames.specs.Spelling.{AnswerOf}
+use Rattle.private_plan.specs.Plans.{is_sum}
 use Rattle.session_model.specs.Answers.{answer_bytes, answer_frame}
 use Rattle.session_model.specs.Sessions.{key_frame, key_bytes, round_answer}
 use Rattle.client_rounds.specs.Asked.{IsAsked}
@@ -26,12 +28,12 @@ one_answer : (r : Result (List ℕ) ProviderFault) (x y : List ℕ) → r ≡ Ok
 one_answer r x y a b = cc
 
 -- an answer to bytes that spell a key frame is spelled
-pub own_spelled : (e : Meaning) (checked : Checked) (table : TableParts) (params drawn : List ℕ) → IsTable table → (p : Provider) (bytes : List ℕ) → IsCheckedFor checked table.shape.schema → KeyFrameOf bytes (key_frame e p checked table.shape params drawn)
+pub own_spelled : (e : Meaning) (checked : Checked) (table : TableParts) (params drawn : List ℕ) → IsTable table → (p : Provider) (bytes : List ℕ) → IsAsked checked table.shape params → list_all is_sum checked.spec.items ≡ true → KeyFrameOf bytes (key_frame e p checked table.shape params drawn)
     → AnswerOf (answer_bytes e p bytes (key_frame e p checked table.shape params drawn) checked table) (answer_frame e p bytes (key_frame e p checked table.shape params drawn) checked table)
 unfolding key_bytes
-own_spelled e checked table params drawn valid p bytes accepted of =
+own_spelled e checked table params drawn valid p bytes asked sums of =
     subst (λ (b : List ℕ). AnswerOf (answer_bytes e p b (key_frame e p checked table.shape params drawn) checked table) (answer_frame e p b (key_frame e p checked table.shape params drawn) checked table)) (sym of.spelled)
-    (answer_spelled e checked table params drawn p valid accepted of.typed.session)
+    (answer_spelled e checked table params drawn p valid asked.accepted asked.form.form asked.known sums of.typed.session)
 
 -- what is asked in a session
 pub session_asked : (s : Session) → IsSession s → IsAsked s.checked s.table.shape s.params

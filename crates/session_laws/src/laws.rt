@@ -29,8 +29,8 @@ pub fn own_keys_are_answered()
     ensures answered { (e : Meaning) (p : Provider) (checked : Checked) (table : TableParts) (params words bytes : List ℕ) → IsTable table → IsAsked checked table.shape params
         → list_all is_sum checked.spec.items ≡ true → sums_bounded table checked.spec.items ≡ Ok tt → KeyFrameOf bytes (key_frame e p checked table.shape params words)
         → answered e p bytes table ≡ Ok (answer_bytes e p bytes (key_frame e p checked table.shape params words) checked table) }
-    ensures spelled { (e : Meaning) (p : Provider) (checked : Checked) (table : TableParts) (params words bytes : List ℕ) → IsTable table → IsCheckedFor checked table.shape.schema
-        → KeyFrameOf bytes (key_frame e p checked table.shape params words)
+    ensures spelled { (e : Meaning) (p : Provider) (checked : Checked) (table : TableParts) (params words bytes : List ℕ) → IsTable table → IsAsked checked table.shape params
+        → list_all is_sum checked.spec.items ≡ true → KeyFrameOf bytes (key_frame e p checked table.shape params words)
         → AnswerOf (answer_bytes e p bytes (key_frame e p checked table.shape params words) checked table) (answer_frame e p bytes (key_frame e p checked table.shape params words) checked table) }
 {
     canonical_text_is_accepted();

@@ -1,4 +1,4 @@
-use Rattle.client_rounds.proofs.Trees.{only_sums}
+use Rattle.client_rounds.proofs.Params.{only_sums}
 use Rattle.client_rounds.proofs.laws.sum_plan_has_sums.Goals as goal
 
 pub returns : goal.returns

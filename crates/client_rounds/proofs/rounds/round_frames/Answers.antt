@@ -4,7 +4,7 @@ use Rattle.spl_words.specs.declared.provider.Provider.TheVariants.{Zero, One}
 use Rattle.spl_words.specs.Secrets.{secret_tree}
 use Rattle.key_frames.specs.declared.frame.KeyFrame.{KeyFrame}
 use Rattle.key_frames.specs.Trees.{key_list, key_tree}
-use Rattle.session_model.proofs.KeyTrees.{trees_same}
+use Rattle.key_frames.proofs.TreeLaws.{trees_same}
 use Rattle.client_rounds.proofs.rounds.round_frames.Goals as goal
 
 pub returns-clause-trees : goal.returns-clause-trees

@@ -2,14 +2,14 @@ use Rattle.std.proofs.Common.{◌∙◌, length, ap, arith, subst}
 use Rattle.spl_words.specs.declared.provider.Provider.TheVariants.{Zero, One}
 use Rattle.spl_values.specs.Shapes.{IsShape}
 use Rattle.client_rounds.specs.Asked.{IsAsked}
-use Rattle.client_rounds.proofs.Trees.{tree_count}
+use Rattle.private_plan.proofs.FirstTrees.{secret_count}
 use Rattle.client_rounds.proofs.Begun.{words_for, session_back, roots_again}
 use Rattle.client_rounds.proofs.FrameLengths.{round_is}
 use Rattle.client_rounds.proofs.starting.begun.Goals as goal
 
 pub overflow_cast-as_slice : goal.overflow_cast-as_slice
 overflow_cast-as_slice g c =
-    let few = tree_count c.args.checked.now c.args.shape.now.schema c.args.params.now c.requires.accepted c.facts.ensures.form c.requires.params in
+    let few = secret_count c.args.checked.now c.args.shape.now c.args.params.now c.requires.accepted c.facts.ensures.form c.requires.params (let valid : IsShape c.args.shape.now = subst IsShape c.shape.view_is c.shape.invariant in valid.schema) in
     omega (arith, ap length (c.as_slice.ensures ∙ c.in-Ok-round_secrets.ensures.ok), few.1)
 
 pub returns-in-Ok-round_with-clause-some : goal.returns-in-Ok-round_with-clause-some
@@ -29,4 +29,4 @@ returns-in-Ok-round_with-clause-lengths g c =
     let asked : IsAsked c.args.checked.now c.args.shape.now c.args.params.now = record { valid = subst IsShape c.shape.view_is c.shape.invariant; form = c.facts.ensures; accepted = c.requires.accepted; known = c.requires.params } in
     let e = g.E.Expander.meaning c.args.expander.now in
     let round = c.in-Ok-round_with.round in
-    (round_is e Zero c.args.checked.now c.args.shape.now c.args.params.now words round.left asked c.requires.sums of.left, round_is e One c.args.checked.now c.args.shape.now c.args.params.now words round.right asked c.requires.sums of.right)
+    (round_is e Zero c.args.checked.now c.args.shape.now c.args.params.now words round.left asked of.left, round_is e One c.args.checked.now c.args.shape.now c.args.params.now words round.right asked of.right)

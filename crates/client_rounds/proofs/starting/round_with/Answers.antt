@@ -4,7 +4,7 @@ use Rattle.spl_values.specs.Shapes.{IsShape}
 use Rattle.key_frames.specs.Frames.{FrameAllowed}
 use Rattle.private_plan.specs.declared.plans.Plan.{Plan}
 use Rattle.client_rounds.specs.Asked.{IsAsked}
-use Rattle.client_rounds.proofs.Trees.{tree_count}
+use Rattle.private_plan.proofs.FirstTrees.{secret_count}
 use Rattle.client_rounds.proofs.Allowed.{frame_allowed}
 use Rattle.client_rounds.proofs.Written.{made_for, has_params}
 use Rattle.client_rounds.proofs.Begun.{Begun, round_begun}
@@ -12,7 +12,7 @@ use Rattle.client_rounds.proofs.starting.round_with.Goals as goal
 
 pub round_frames-requires-clause-trees : goal.round_frames-requires-clause-trees
 round_frames-requires-clause-trees g c =
-    let few = tree_count c.args.checked.now c.args.shape.now.schema c.args.params.now c.requires.accepted c.facts.ensures.form c.requires.params in
+    let few = secret_count c.args.checked.now c.args.shape.now c.args.params.now c.requires.accepted c.facts.ensures.form c.requires.params (let valid : IsShape c.args.shape.now = subst IsShape c.shape.view_is c.shape.invariant in valid.schema) in
     omega (arith, ap length c.requires.secrets, few.1)
 
 pub frame_bytes-requires : goal.frame_bytes-requires

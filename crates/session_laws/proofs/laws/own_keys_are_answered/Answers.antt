@@ -7,4 +7,4 @@ returns-clause-answered c = λ e p checked table params words bytes valid asked 
     own_answered e p checked table params words bytes asked sums bounded (c.canonical_text_is_accepted.ensures checked table.shape.schema asked.form asked.accepted) of
 
 pub returns-clause-spelled : goal.returns-clause-spelled
-returns-clause-spelled c = λ e p checked table params words bytes valid accepted of. own_spelled e checked table params words valid p bytes accepted of
+returns-clause-spelled c = λ e p checked table params words bytes valid asked sums of. own_spelled e checked table params words valid p bytes asked sums of
