@@ -12,6 +12,4 @@ mod reading;
 
 pub use answer::{Answer, Group, Groups, Outcome, Outcomes, TopRow, TopRows};
 pub use clear_answers::clear_answer;
-pub use printing::answer_text;
 pub use queries::{answer_of_cell, print_answer};
-pub use reading::cell_answer;

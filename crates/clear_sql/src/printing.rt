@@ -377,9 +377,8 @@ fn push_groups(
     Ok(())
 }
 
-/// The text of an answer: for each group its label, where a column groups the rows, and for each item a line with the
-/// item as a query writes it and its value, and the lines of the best rows. A mean is a fraction that isn't reduced.
-pub fn answer_text(
+// The text of an answer.
+pub(crate) fn answer_text(
     alloc: Global,
     spec: &CellSpec,
     schema: &Schema,

@@ -5,14 +5,17 @@ ghost use Rattle.query_reader.specs.Accepted.{IsCheckedFor};
 ghost use Rattle.clear_sql.specs.AnswerText.{GroupFits, answer_text};
 ghost use Rattle.clear_sql.specs.CellAnswers.{BlocksRead, answer_of};
 
-use crate::{Answer, answer_text, cell_answer, laws};
+use crate::printing::answer_text;
+use crate::reading::cell_answer;
+use crate::{Answer, laws};
 use query_reader::{Checked, laws as query_laws};
 use spl_values::{Bytes, Schema};
 use std::alloc::{AllocError, Global};
 
-/// The answer that a cell of a query stands for, whatever words it holds, as `cell_answer` says. The places of its best
-/// rows are at most 262,144, and its greatest and least words, and the sort and shown words of its best rows, are codes of
-/// values of their columns.
+/// The answer that a cell of a query stands for, whatever words it holds: the count of each block, its sums, the values of
+/// its greatest and least codes, and its best rows. A block whose count is 0 has no sum and no best value, and with a group
+/// column it is left out. The places of its best rows are at most 262,144, and its greatest and least words, and the sort and
+/// shown words of its best rows, are codes of values of their columns.
 ///
 /// # Errors
 ///
@@ -34,8 +37,10 @@ pub fn answer_of_cell(
     cell_answer(alloc, &checked.spec, schema, cell)
 }
 
-/// The text of an answer of a query, as `answer_text` says. Each group has one outcome for each item, which the item may
-/// have, values fit their columns, and a label stands exactly where a column groups the rows, and is one of its labels.
+/// The text of an answer of a query: for each group its label, where a column groups the rows, and for each item a line with
+/// the item as a query writes it and its value, and the lines of the best rows. A mean is a fraction that isn't reduced.
+/// Each group has one outcome for each item, which the item may have, values fit their columns, and a label stands exactly
+/// where a column groups the rows, and is one of its labels.
 ///
 /// # Errors
 ///

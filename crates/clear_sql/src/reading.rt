@@ -234,10 +234,8 @@ fn groups_in(
     }
 }
 
-/// The answer that a cell stands for, whatever words it holds: the count of each block, its sums, the values of its
-/// greatest and least codes, and its best rows. A block whose count is 0 has no sum and no best value, and with a group
-/// column it is left out.
-pub fn cell_answer(
+// The answer that a cell stands for.
+pub(crate) fn cell_answer(
     alloc: Global,
     spec: &CellSpec,
     schema: &Schema,
