@@ -34,7 +34,7 @@ use Rattle.splinter_commands.specs.Refusals.{name_of, or_provider_refusal, or_as
 
 -- the words that a provider answers in a session with these words drawn
 abbrev pub provider_words : Provider → Traced → List ℕ → List ℕ
-provider_words p t words = answer_words chacha p t.checked (key_frame chacha p t.checked t.table.shape t.params words).keys t.table
+provider_words p t words = let frame = key_frame chacha p t.checked t.table.shape t.params words in answer_words chacha p frame.round frame.keys t.checked t.table
 
 -- words, each behind a space
 abbrev pub spaced : List ℕ → List ℕ

@@ -34,7 +34,10 @@ pub returns-clause-frames : goal.returns-clause-frames
 returns-clause-frames c = λ p words of.
     let t = c.args.traced.now in
     let spelled = round_spelled t words c.args.round.now of in
-    c.own_keys_are_answered.ensures.spelled chacha p t.checked t.table t.params words (own_key chacha (session_of t words) p) c.shape.ensures.valid c.requires.asked.checked (spelled.keys p)
+    let known = c.requires.asked in
+    let valid = c.shape.ensures.valid in
+    let asked : IsAsked t.checked t.table.shape t.params = record { valid = valid.shape; form = c.facts.ensures; accepted = known.checked; known = known.params } in
+    c.own_keys_are_answered.ensures.spelled chacha p t.checked t.table t.params words (own_key chacha (session_of t words) p) valid asked known.sums (spelled.keys p)
 
 pub returns-clause-ended : goal.returns-clause-ended
 returns-clause-ended c = λ words of.
