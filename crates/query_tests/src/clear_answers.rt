@@ -5,24 +5,28 @@ ghost use Rattle.query_reader.specs.Params.{AreParamsFor};
 use crate::fixtures::{FLIGHTS, checked_of, params_of};
 use clear_sql::{clear_answer, print_answer};
 use csv_tables::read_table;
-use query_reader::{Checked, ParamFault, Params, laws};
-use spl_values::{Bytes, Table, read_shape};
+use query_reader::{Checked, Params, laws};
+use spl_values::{Bytes, Shape, Table, read_shape};
 use std::alloc::{AllocError, Global};
-use std::test::Fail;
 use sum_bounds::check_sums;
 
-fn table_of(alloc: Global, shape: &[u8], rows: &[u8]) -> Result<Table, Fail> {
-    let shape = read_shape(alloc, shape)?;
-    Ok(read_table(alloc, rows, &shape)?)
+/// A table, a query over it with its parameters, and the text of its answer, or none where its sums are too great.
+#[derive(Clone, Copy)]
+struct AnswerCase {
+    shape: &'static [u8],
+    rows: &'static [u8],
+    query: &'static str,
+    params: &'static str,
+    text: Option<&'static [u8]>,
 }
 
-/// The text of the clear answer to an accepted query, or that its sums are too great.
+/// The text of the clear answer to an accepted query.
 fn text_of(
     alloc: Global,
     checked: &Checked,
     params: &Params,
     table: &Table,
-) -> Result<Bytes, AllocError>
+) -> Result<Option<Bytes>, AllocError>
     requires checked { IsCheckedFor checked.now table.now.shape.schema }
     requires params { AreParamsFor checked.now table.now.shape.schema params.now }
 {
@@ -30,55 +34,78 @@ fn text_of(
     match check_sums(table, checked.spec.items.as_slice()) {
         Ok(()) => {
             let answer = clear_answer(alloc, checked, params, table)?;
-            print_answer(alloc, checked, &table.shape().schema, &answer)
+            let text = print_answer(alloc, checked, &table.shape().schema, &answer)?;
+            Ok(Some(text))
         }
-        Err(_) => Ok(Bytes::from_vec(b"sums over 64 bits".to_vec(alloc)?)),
+        Err(_) => Ok(None),
     }
 }
 
-/// The same where the parameters are words.
-fn text_under(
+/// Whether an accepted query has the case's answer for these parameters.
+fn is_text(
     alloc: Global,
     checked: &Checked,
-    words: &str,
+    params: &Params,
     table: &Table,
-) -> Result<Bytes, ParamFault>
-    requires { IsCheckedFor checked.now table.now.shape.schema }
+    wanted: Option<&[u8]>,
+) -> bool
+    requires checked { IsCheckedFor checked.now table.now.shape.schema }
+    requires params { AreParamsFor checked.now table.now.shape.schema params.now }
 {
-    let params = params_of(alloc, checked, &table.shape().schema, words)?;
-    Ok(text_of(alloc, checked, &params, table)?)
-}
-
-/// A query, its parameters, and the text of its answer.
-#[derive(Clone, Copy)]
-struct AnswerCase {
-    query: &'static str,
-    params: &'static str,
-    text: &'static str,
-}
-
-/// Whether an accepted query has the case's answer.
-fn is_answered(alloc: Global, checked: &Checked, case: &AnswerCase, table: &Table) -> bool
-    requires { IsCheckedFor checked.now table.now.shape.schema }
-{
-    match text_under(alloc, checked, case.params, table) {
-        Ok(text) => text.as_slice() == case.text.as_bytes(),
+    match text_of(alloc, checked, params, table) {
+        Ok(Some(text)) => wanted == Some(text.as_slice()),
+        Ok(None) => wanted.is_none(),
         Err(_) => false,
     }
 }
 
-/// The parameters of the first case whose answer is another.
-fn first_other(alloc: Global, table: &Table, cases: &[AnswerCase]) -> Option<&'static str> {
-    for case in cases {
-        let holds = match checked_of(alloc, &table.shape().schema, case.query) {
-            Ok(checked) => is_answered(alloc, &checked, case, table),
-            Err(_) => false,
-        };
-        if !holds {
-            return Some(case.params);
+/// Whether an accepted query has the case's answer.
+fn is_answered(alloc: Global, checked: &Checked, table: &Table, case: &AnswerCase) -> bool
+    requires { IsCheckedFor checked.now table.now.shape.schema }
+{
+    match params_of(alloc, checked, &table.shape().schema, case.params) {
+        Ok(params) => is_text(alloc, checked, &params, table, case.text),
+        Err(_) => false,
+    }
+}
+
+/// Whether the case's query over a table has the case's answer.
+fn is_answered_over(alloc: Global, table: &Table, case: &AnswerCase) -> bool {
+    match checked_of(alloc, &table.shape().schema, case.query) {
+        Ok(checked) => is_answered(alloc, &checked, table, case),
+        Err(_) => false,
+    }
+}
+
+/// Whether the case's query over the case's table has the case's answer.
+fn is_answered_by_shape(alloc: Global, shape: &Shape, case: &AnswerCase) -> bool {
+    match read_table(alloc, case.rows, shape) {
+        Ok(table) => is_answered_over(alloc, &table, case),
+        Err(_) => false,
+    }
+}
+
+/// Whether the case holds.
+fn holds(alloc: Global, case: &AnswerCase) -> bool {
+    match read_shape(alloc, case.shape) {
+        Ok(shape) => is_answered_by_shape(alloc, &shape, case),
+        Err(_) => false,
+    }
+}
+
+/// The first case whose answer is another.
+fn first_other(alloc: Global) -> Option<usize> {
+    for (at, case) in CASES.iter().enumerate() {
+        if !holds(alloc, case) {
+            return Some(at);
         }
     }
     None
+}
+
+#[test]
+fn clear_answers(rt: HostRuntime) {
+    assert_eq!(rt; first_other(rt.alloc()), None);
 }
 
 const FLIGHT_ROWS: &[u8] =
@@ -87,149 +114,113 @@ const FLIGHT_ROWS: &[u8] =
 const SUMS: &str =
     "SELECT COUNT(*), SUM(price), AVG(price) FROM flights WHERE origin = ? AND dest = ? AND price BETWEEN ? AND ?";
 
-const ABOUT_FLIGHTS: &[AnswerCase] = &[
-    AnswerCase {
-        query: SUMS,
-        params: "SFO JFK 300 500",
-        text: "COUNT(*) 2\nSUM(price) 750\nAVG(price) 750/2\n",
-    },
-    AnswerCase {
-        query: SUMS,
-        params: "SFO JFK 500 300",
-        text: "COUNT(*) 0\nSUM(price) NULL\nAVG(price) NULL\n",
-    },
-    AnswerCase {
-        query: SUMS,
-        params: "SFO JFK 0 65535",
-        text: "COUNT(*) 3\nSUM(price) 1350\nAVG(price) 1350/3\n",
-    },
-    AnswerCase {
-        query: "SELECT COUNT(*) FROM flights WHERE (origin = ? OR origin = ?)",
-        params: "SFO SFO",
-        text: "COUNT(*) 4\n",
-    },
-];
+const NO_ROW: &[u8] = b"table t\nrows 0\na UINT(4)\nv UINT(8)\n";
 
-/// Counts, sums and means over flights: between two prices, both taken in; over none; and a row once that two branches
-/// allow.
-#[test]
-fn answers_about_flights(rt: HostRuntime) -> Result<(), Fail> {
-    let table = table_of(rt.alloc(), FLIGHTS, FLIGHT_ROWS)?;
-    assert_eq!(rt; first_other(rt.alloc(), &table, ABOUT_FLIGHTS), None);
-    Ok(())
-}
+const ONE_ROW: &[u8] = b"table t\nrows 1\na UINT(4)\nv UINT(8)\n";
 
-const GREATEST: &str = "SELECT MAX(v), COUNT(*) FROM t WHERE a = ?";
-
-const OVER_NONE: &[AnswerCase] = &[AnswerCase {
-    query: GREATEST,
-    params: "7",
-    text: "MAX(v) NULL\nCOUNT(*) 0\n",
-}];
-
-/// Over no row there is no greatest value.
-#[test]
-fn no_greatest_value(rt: HostRuntime) -> Result<(), Fail> {
-    let shape = b"table t\nrows 0\na UINT(4)\nv UINT(8)\n".as_slice();
-    let table = table_of(rt.alloc(), shape, b"a,v\n".as_slice())?;
-    assert_eq!(rt; first_other(rt.alloc(), &table, OVER_NONE), None);
-    Ok(())
-}
-
-const OVER_ONE: &[AnswerCase] = &[
-    AnswerCase {
-        query: GREATEST,
-        params: "7",
-        text: "MAX(v) 0\nCOUNT(*) 1\n",
-    },
-    AnswerCase {
-        query: GREATEST,
-        params: "6",
-        text: "MAX(v) NULL\nCOUNT(*) 0\n",
-    },
-];
-
-/// A greatest value of 0 is one.
-#[test]
-fn a_greatest_value_of_zero(rt: HostRuntime) -> Result<(), Fail> {
-    let shape = b"table t\nrows 1\na UINT(4)\nv UINT(8)\n".as_slice();
-    let table = table_of(rt.alloc(), shape, b"a,v\n7,0\n".as_slice())?;
-    assert_eq!(rt; first_other(rt.alloc(), &table, OVER_ONE), None);
-    Ok(())
-}
+const FOUR_ROWS: &[u8] = b"table t\nrows 4\na UINT(4)\nv UINT(8)\n";
 
 const TWO_SUMMANDS: &[u8] = b"table t\nrows 2\na UINT(1)\nv UINT(64)\n";
 
+const LABELLED: &[u8] = b"table s\nrows 3\nk ENUM(red|green|blue)\na UINT(4)\n";
+
+const LABELLED_ROWS: &[u8] = b"k,a\nred,1\nblue,1\ngreen,2\n";
+
+const GREATEST: &str = "SELECT MAX(v), COUNT(*) FROM t WHERE a = ?";
+
 const SUM: &str = "SELECT SUM(v) FROM t WHERE a = ?";
-
-const GREATEST_SUM: &[AnswerCase] = &[AnswerCase {
-    query: SUM,
-    params: "1",
-    text: "SUM(v) 18446744073709551615\n",
-}];
-
-#[test]
-fn a_sum_of_64_bits(rt: HostRuntime) -> Result<(), Fail> {
-    let rows = b"a,v\n1,18446744073709551614\n1,1\n".as_slice();
-    let table = table_of(rt.alloc(), TWO_SUMMANDS, rows)?;
-    assert_eq!(rt; first_other(rt.alloc(), &table, GREATEST_SUM), None);
-    Ok(())
-}
-
-const TOO_GREAT: &[AnswerCase] = &[AnswerCase {
-    query: SUM,
-    params: "1",
-    text: "sums over 64 bits",
-}];
-
-/// The rows that don't match count too, so that the refusal tells nothing of the parameters.
-#[test]
-fn sums_over_64_bits(rt: HostRuntime) -> Result<(), Fail> {
-    let rows = b"a,v\n1,18446744073709551615\n0,1\n".as_slice();
-    let table = table_of(rt.alloc(), TWO_SUMMANDS, rows)?;
-    assert_eq!(rt; first_other(rt.alloc(), &table, TOO_GREAT), None);
-    Ok(())
-}
-
-const BEST: &[AnswerCase] = &[AnswerCase {
-    query: "SELECT TOPK(2, v, a) FROM t WHERE a = ?",
-    params: "1",
-    text: "TOPK(2, v, a) 2\n1|9|1\n2|9|1\n",
-}];
-
-/// Of rows with the same sort value the earlier comes first.
-#[test]
-fn best_rows(rt: HostRuntime) -> Result<(), Fail> {
-    let shape = b"table t\nrows 4\na UINT(4)\nv UINT(8)\n".as_slice();
-    let table = table_of(rt.alloc(), shape, b"a,v\n1,5\n1,9\n1,9\n1,9\n".as_slice())?;
-    assert_eq!(rt; first_other(rt.alloc(), &table, BEST), None);
-    Ok(())
-}
 
 const GROUPED: &str = "SELECT COUNT(*) FROM s WHERE a = ? GROUP BY k";
 
-const GROUPS: &[AnswerCase] = &[
+const CASES: &[AnswerCase] = &[
+    // between two prices, both taken in
     AnswerCase {
+        shape: FLIGHTS,
+        rows: FLIGHT_ROWS,
+        query: SUMS,
+        params: "SFO JFK 300 500",
+        text: Some(b"COUNT(*) 2\nSUM(price) 750\nAVG(price) 750/2\n"),
+    },
+    AnswerCase {
+        shape: FLIGHTS,
+        rows: FLIGHT_ROWS,
+        query: SUMS,
+        params: "SFO JFK 500 300",
+        text: Some(b"COUNT(*) 0\nSUM(price) NULL\nAVG(price) NULL\n"),
+    },
+    AnswerCase {
+        shape: FLIGHTS,
+        rows: FLIGHT_ROWS,
+        query: SUMS,
+        params: "SFO JFK 0 65535",
+        text: Some(b"COUNT(*) 3\nSUM(price) 1350\nAVG(price) 1350/3\n"),
+    },
+    // a row that two branches allow counts once
+    AnswerCase {
+        shape: FLIGHTS,
+        rows: FLIGHT_ROWS,
+        query: "SELECT COUNT(*) FROM flights WHERE (origin = ? OR origin = ?)",
+        params: "SFO SFO",
+        text: Some(b"COUNT(*) 4\n"),
+    },
+    // over no row there is no greatest value, and one of 0 is one
+    AnswerCase {
+        shape: NO_ROW,
+        rows: b"a,v\n",
+        query: GREATEST,
+        params: "7",
+        text: Some(b"MAX(v) NULL\nCOUNT(*) 0\n"),
+    },
+    AnswerCase {
+        shape: ONE_ROW,
+        rows: b"a,v\n7,0\n",
+        query: GREATEST,
+        params: "7",
+        text: Some(b"MAX(v) 0\nCOUNT(*) 1\n"),
+    },
+    AnswerCase {
+        shape: ONE_ROW,
+        rows: b"a,v\n7,0\n",
+        query: GREATEST,
+        params: "6",
+        text: Some(b"MAX(v) NULL\nCOUNT(*) 0\n"),
+    },
+    AnswerCase {
+        shape: TWO_SUMMANDS,
+        rows: b"a,v\n1,18446744073709551614\n1,1\n",
+        query: SUM,
+        params: "1",
+        text: Some(b"SUM(v) 18446744073709551615\n"),
+    },
+    // the rows that don't match count too, so that the refusal tells nothing of the parameters
+    AnswerCase {
+        shape: TWO_SUMMANDS,
+        rows: b"a,v\n1,18446744073709551615\n0,1\n",
+        query: SUM,
+        params: "1",
+        text: None,
+    },
+    // of rows with the same sort value the earlier comes first
+    AnswerCase {
+        shape: FOUR_ROWS,
+        rows: b"a,v\n1,5\n1,9\n1,9\n1,9\n",
+        query: "SELECT TOPK(2, v, a) FROM t WHERE a = ?",
+        params: "1",
+        text: Some(b"TOPK(2, v, a) 2\n1|9|1\n2|9|1\n"),
+    },
+    // labels without a row are left out, and over no row there is no group
+    AnswerCase {
+        shape: LABELLED,
+        rows: LABELLED_ROWS,
         query: GROUPED,
         params: "1",
-        text: "GROUP red\nCOUNT(*) 1\nGROUP blue\nCOUNT(*) 1\n",
+        text: Some(b"GROUP red\nCOUNT(*) 1\nGROUP blue\nCOUNT(*) 1\n"),
     },
     AnswerCase {
+        shape: LABELLED,
+        rows: LABELLED_ROWS,
         query: GROUPED,
         params: "3",
-        text: "",
+        text: Some(b""),
     },
 ];
-
-/// Labels without a row are left out, and over no row there is no group.
-#[test]
-fn groups_of_rows(rt: HostRuntime) -> Result<(), Fail> {
-    let shape = b"table s\nrows 3\nk ENUM(red|green|blue)\na UINT(4)\n".as_slice();
-    let table = table_of(
-        rt.alloc(),
-        shape,
-        b"k,a\nred,1\nblue,1\ngreen,2\n".as_slice(),
-    )?;
-    assert_eq!(rt; first_other(rt.alloc(), &table, GROUPS), None);
-    Ok(())
-}

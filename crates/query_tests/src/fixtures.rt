@@ -1,4 +1,4 @@
-//! Shapes, accepted queries and their parameters, and what is said of those that are refused.
+//! Shapes, accepted queries and their parameters.
 ghost use Rattle.std.specs.Prelude.{IfOk};
 ghost use Rattle.query_reader.specs.Accepted.{IsCheckedFor};
 ghost use Rattle.query_reader.specs.Params.{AreParamsFor};
@@ -47,39 +47,4 @@ pub fn params_of(
 {
     let words = words_of(alloc, text)?;
     params_of_words(alloc, checked, schema, words.as_slice())
-}
-
-/// What is said of a query: the bits of its key, or why it is refused.
-fn told(alloc: Global, judged: Result<Checked, QueryFault>) -> Result<String, AllocError> {
-    match judged {
-        Ok(checked) => format!(in alloc; "{} bits", checked.bits),
-        Err(fault) => format!(in alloc; "{fault:?}"),
-    }
-}
-
-/// Whether that is said of a query.
-pub fn is_told(alloc: Global, judged: Result<Checked, QueryFault>, wanted: &str) -> bool {
-    match told(alloc, judged) {
-        Ok(text) => text.as_str() == wanted,
-        Err(_) => false,
-    }
-}
-
-/// Whether these are the codes of parameters that are taken.
-pub fn is_taken(found: Result<Params, ParamFault>, codes: &[u128]) -> bool {
-    match found {
-        Ok(params) => params.as_slice() == codes,
-        Err(_) => false,
-    }
-}
-
-/// Whether that is said of parameters that are refused.
-pub fn is_refused(alloc: Global, found: Result<Params, ParamFault>, wanted: &str) -> bool {
-    let Err(fault) = found else {
-        return false;
-    };
-    match format!(in alloc; "{fault:?}") {
-        Ok(text) => text.as_str() == wanted,
-        Err(_) => false,
-    }
 }

@@ -6,8 +6,6 @@ mod clear_answers;
 #[cfg(test)]
 mod fixtures;
 #[cfg(test)]
-mod judging;
-#[cfg(test)]
 mod parsing;
 #[cfg(test)]
 mod plans;

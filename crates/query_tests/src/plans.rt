@@ -1,19 +1,13 @@
-//! Plans, lengths of key frames, slots and secrets by hand.
-ghost use Rattle.std.specs.Prelude.{◌≤◌, ◌<◌, ◌^◌};
+//! Plans, lengths of key frames and slots by hand.
 ghost use Rattle.query_reader.specs.Accepted.{IsCheckedFor};
-ghost use Rattle.query_reader.specs.Params.{AreParamsFor};
 
 use crate::fixtures::{FLIGHTS, checked_of, params_of, schema_of};
 use interval_keys::Interval;
-use private_plan::{
-    KeySpec, Plan, PlanKind, SecretFault, frame_length, plan, round_secrets, slots,
-};
-use query_reader::{Checked, ParamFault, Params, QueryFault};
+use private_plan::{KeySpec, Plan, PlanKind, frame_length, plan, slots};
+use query_reader::{Checked, ParamFault, QueryFault};
 use spl_values::{Schema, Shape, ShapeFault, read_shape};
-use spl_words::TreeKind::{Point, Threshold};
-use spl_words::{TreeKind, TreeSecret};
+use spl_words::TreeKind;
 use std::alloc::Global;
-use std::test::Fail;
 
 const DIGITS: &[u8] = b"table t\nrows 1\na UINT(4)\nb UINT(4)\n";
 
@@ -24,8 +18,6 @@ const PEOPLE: &[u8] = b"table p\nrows 1\nx UINT(32)\n";
 
 const SUMS: &str =
     "SELECT COUNT(*), SUM(price), AVG(price) FROM flights WHERE origin = ? AND dest = ? AND price BETWEEN ? AND ?";
-
-const PRICES: &str = "SELECT COUNT(*) FROM flights WHERE price BETWEEN ? AND ?";
 
 const EITHER: &str = "SELECT COUNT(*) FROM flights WHERE (origin = ? OR origin = ?)";
 
@@ -88,11 +80,20 @@ const FLIGHT_PLANS: &[PlanCase] = &[
     },
 ];
 
+/// The same where the shape is a text.
+fn first_other_plan_over(alloc: Global, text: &[u8], cases: &[PlanCase]) -> Option<&'static str> {
+    match read_shape(alloc, text) {
+        Ok(shape) => first_other_plan(alloc, &shape, cases),
+        Err(_) => Some("no shape"),
+    }
+}
+
 #[test]
-fn plans_over_flights(rt: HostRuntime) -> Result<(), ShapeFault> {
-    let shape = read_shape(rt.alloc(), FLIGHTS)?;
-    assert_eq!(rt; first_other_plan(rt.alloc(), &shape, FLIGHT_PLANS), None);
-    Ok(())
+fn plans_over_flights(rt: HostRuntime) {
+    assert_eq!(rt;
+        first_other_plan_over(rt.alloc(), FLIGHTS, FLIGHT_PLANS),
+        None
+    );
 }
 
 const PEOPLE_PLANS: &[PlanCase] = &[
@@ -111,10 +112,11 @@ const PEOPLE_PLANS: &[PlanCase] = &[
 ];
 
 #[test]
-fn plans_over_a_wide_column(rt: HostRuntime) -> Result<(), ShapeFault> {
-    let shape = read_shape(rt.alloc(), PEOPLE)?;
-    assert_eq!(rt; first_other_plan(rt.alloc(), &shape, PEOPLE_PLANS), None);
-    Ok(())
+fn plans_over_a_wide_column(rt: HostRuntime) {
+    assert_eq!(rt;
+        first_other_plan_over(rt.alloc(), PEOPLE, PEOPLE_PLANS),
+        None
+    );
 }
 
 /// Whether the trees are pairs of point trees, the first of so many bits, each pair a bit less deep, the last of one.
@@ -132,12 +134,19 @@ fn are_levels(trees: &[KeySpec], bits: u32) -> bool {
     paired && depth == 0
 }
 
+/// Whether the trees of a query's plan are those.
+fn has_levels(alloc: Global, shape: &Shape, query: &str, bits: u32) -> bool {
+    match plan_of(alloc, shape, query) {
+        Ok(plan) => are_levels(plan.first.as_slice(), bits),
+        Err(_) => false,
+    }
+}
+
 /// A range over a narrow column has two trees for each level.
 #[test]
-fn trees_of_levels(rt: HostRuntime) -> Result<(), Fail> {
+fn trees_of_levels(rt: HostRuntime) -> Result<(), ShapeFault> {
     let shape = read_shape(rt.alloc(), FLIGHTS)?;
-    let plan = plan_of(rt.alloc(), &shape, GREATEST)?;
-    assert!(rt; are_levels(plan.first.as_slice(), 16));
+    assert!(rt; has_levels(rt.alloc(), &shape, GREATEST, 16));
     Ok(())
 }
 
@@ -155,27 +164,31 @@ fn length_of(plan: &Plan, round: u32, query: &str, shape: &[u8]) -> Option<u64> 
     Some(frame_length(plan, round, query.len() as u64, shape.len() as u64))
 }
 
-/// The length of a round's key frame of a query over a shape.
-fn query_length(alloc: Global, text: &[u8], query: &str, round: u32) -> Result<Option<u64>, Fail> {
-    let shape = read_shape(alloc, text)?;
-    let plan = plan_of(alloc, &shape, query)?;
-    Ok(length_of(&plan, round, query, text))
+/// The same of a query over a shape that a text describes.
+fn query_length(alloc: Global, shape: &Shape, text: &[u8], query: &str, round: u32) -> Option<u64> {
+    match plan_of(alloc, shape, query) {
+        Ok(plan) => length_of(&plan, round, query, text),
+        Err(_) => None,
+    }
+}
+
+/// The length of a round's key frame of a query over the shape of a text.
+fn text_length(alloc: Global, text: &[u8], query: &str, round: u32) -> Option<u64> {
+    match read_shape(alloc, text) {
+        Ok(shape) => query_length(alloc, &shape, text, query, round),
+        Err(_) => None,
+    }
 }
 
 #[test]
-fn lengths_of_frames_over_flights(rt: HostRuntime) -> Result<(), Fail> {
-    let sums = query_length(rt.alloc(), FLIGHTS, SUMS, 1)?;
-    let greatest = query_length(rt.alloc(), FLIGHTS, GREATEST, 1)?;
-    assert_eq!(rt; [sums, greatest], [Some(4523), Some(5653)]);
-    Ok(())
-}
-
-#[test]
-fn lengths_of_frames_of_two_rounds(rt: HostRuntime) -> Result<(), Fail> {
-    let first = query_length(rt.alloc(), PEOPLE, WIDE, 1)?;
-    let second = query_length(rt.alloc(), PEOPLE, WIDE, 2)?;
-    assert_eq!(rt; [first, second], [Some(2295), Some(217)]);
-    Ok(())
+fn lengths_of_frames(rt: HostRuntime) {
+    let found = [
+        text_length(rt.alloc(), FLIGHTS, SUMS, 1),
+        text_length(rt.alloc(), FLIGHTS, GREATEST, 1),
+        text_length(rt.alloc(), PEOPLE, WIDE, 1),
+        text_length(rt.alloc(), PEOPLE, WIDE, 2),
+    ];
+    assert_eq!(rt; found, [Some(4523), Some(5653), Some(2295), Some(217)]);
 }
 
 /// The lowest and the greatest number of a slot.
@@ -257,11 +270,20 @@ const FLIGHT_SLOTS: &[SlotCase] = &[
     },
 ];
 
+/// The same where the schema is that of a shape's text.
+fn first_other_slots_over(alloc: Global, text: &[u8], cases: &[SlotCase]) -> Option<&'static str> {
+    match schema_of(alloc, text) {
+        Ok(schema) => first_other_slots(alloc, &schema, cases),
+        Err(_) => Some("no schema"),
+    }
+}
+
 #[test]
-fn slots_of_branches(rt: HostRuntime) -> Result<(), ShapeFault> {
-    let schema = schema_of(rt.alloc(), FLIGHTS)?;
-    assert_eq!(rt; first_other_slots(rt.alloc(), &schema, FLIGHT_SLOTS), None);
-    Ok(())
+fn slots_of_branches(rt: HostRuntime) {
+    assert_eq!(rt;
+        first_other_slots_over(rt.alloc(), FLIGHTS, FLIGHT_SLOTS),
+        None
+    );
 }
 
 /// What overlaps becomes one, and what lies in two values of the first column stays two, even where the ends are
@@ -280,99 +302,9 @@ const DIGIT_SLOTS: &[SlotCase] = &[
 ];
 
 #[test]
-fn slots_over_two_columns(rt: HostRuntime) -> Result<(), ShapeFault> {
-    let schema = schema_of(rt.alloc(), DIGITS)?;
-    assert_eq!(rt; first_other_slots(rt.alloc(), &schema, DIGIT_SLOTS), None);
-    Ok(())
-}
-
-/// Whether these are the secrets of an accepted query, where it is a sum's.
-fn are_secrets(
-    alloc: Global,
-    shape: &Shape,
-    checked: &Checked,
-    params: &Params,
-    secrets: &[TreeSecret],
-) -> Result<bool, SecretFault>
-    requires checked { IsCheckedFor checked.now shape.now.schema }
-    requires params { AreParamsFor checked.now shape.now.schema params.now }
-{
-    let plan = plan(alloc, checked, shape)?;
-    match plan.kind {
-        PlanKind::Sum => {
-            let found = round_secrets(alloc, &plan, checked, shape, params, 1, &[])?;
-            Ok(found.as_slice() == secrets)
-        }
-        _ => Ok(false),
-    }
-}
-
-/// The same of a query over the flights.
-fn has_secrets(
-    alloc: Global,
-    query: &str,
-    params: &str,
-    secrets: &[TreeSecret],
-) -> Result<bool, Fail> {
-    let shape = read_shape(alloc, FLIGHTS)?;
-    let checked = checked_of(alloc, &shape.schema, query)?;
-    let params = params_of(alloc, &checked, &shape.schema, params)?;
-    Ok(matches!(
-        are_secrets(alloc, &shape, &checked, &params, secrets),
-        Ok(true)
-    ))
-}
-
-/// A secret of a tree of so many bits.
-fn secret(kind: TreeKind, depth: u32, alpha: u128, beta: u64) -> TreeSecret
-    requires some { 1 ≤ depth }
-    requires most { depth ≤ 128 }
-    requires below { alpha < 2 ^ depth }
-{
-    TreeSecret {
-        kind,
-        depth,
-        alpha,
-        beta,
-    }
-}
-
-#[test]
-fn secrets_of_a_range(rt: HostRuntime) -> Result<(), Fail> {
-    let wanted = [
-        secret(Threshold, 64, 0x5346_4f4a_464b_01f4, 1),
-        secret(Threshold, 64, 0x5346_4f4a_464b_012b, u64::MAX),
-    ];
-    let found = has_secrets(rt.alloc(), SUMS, "SFO JFK 300 500", &wanted)?;
-    assert!(rt; found);
-    Ok(())
-}
-
-/// Below the lowest price of these two texts there are keys of other texts.
-#[test]
-fn secrets_of_a_range_from_the_lowest_price(rt: HostRuntime) -> Result<(), Fail> {
-    let wanted = [
-        secret(Threshold, 64, 0x5346_4f4a_464b_01f4, 1),
-        secret(Threshold, 64, 0x5346_4f4a_464a_ffff, u64::MAX),
-    ];
-    let found = has_secrets(rt.alloc(), SUMS, "SFO JFK 0 500", &wanted)?;
-    assert!(rt; found);
-    Ok(())
-}
-
-/// Below 0 there is no key.
-#[test]
-fn secrets_of_a_range_from_zero(rt: HostRuntime) -> Result<(), Fail> {
-    let wanted = [secret(Threshold, 16, 500, 1), secret(Threshold, 16, 0, 0)];
-    let found = has_secrets(rt.alloc(), PRICES, "0 500", &wanted)?;
-    assert!(rt; found);
-    Ok(())
-}
-
-#[test]
-fn secrets_of_one_text_twice(rt: HostRuntime) -> Result<(), Fail> {
-    let wanted = [secret(Point, 24, 0x53464f, 1), secret(Point, 24, 0, 0)];
-    let found = has_secrets(rt.alloc(), EITHER, "SFO SFO", &wanted)?;
-    assert!(rt; found);
-    Ok(())
+fn slots_over_two_columns(rt: HostRuntime) {
+    assert_eq!(rt;
+        first_other_slots_over(rt.alloc(), DIGITS, DIGIT_SLOTS),
+        None
+    );
 }

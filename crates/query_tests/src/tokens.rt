@@ -1,9 +1,7 @@
-//! Tokens begin at their places, the last of which may form none, and are written with blanks between them.
-use query_grammar::{Aggregate, Symbol, Token};
-use query_tokens::{Printer, tokens};
-use spl_values::{Bytes, Name};
+//! Tokens begin at their places, the last of which may form none.
+use query_grammar::Token;
+use query_tokens::tokens;
 use std::alloc::{AllocError, Global};
-use std::test::Fail;
 
 /// A text, where its tokens begin, and whether the last place forms a token.
 type PlaceCase = (&'static [u8], &'static [u64], bool);
@@ -56,51 +54,4 @@ fn first_other(alloc: Global) -> Option<usize> {
 #[test]
 fn tokens_begin_at_their_places(rt: HostRuntime) {
     assert_eq!(rt; first_other(rt.alloc()), None);
-}
-
-const SYMBOLS: &[Symbol] = &[
-    Symbol::Select,
-    Symbol::Count,
-    Symbol::Open,
-    Symbol::Star,
-    Symbol::Close,
-    Symbol::Comma,
-];
-
-fn write_symbols(printer: &mut Printer, symbols: &[Symbol]) -> Result<(), AllocError> {
-    for symbol in symbols {
-        printer.symbol(*symbol)?;
-    }
-    Ok(())
-}
-
-fn write_greatest(printer: &mut Printer, name: &Name) -> Result<(), AllocError> {
-    printer.aggregate(Aggregate::Max)?;
-    printer.symbol(Symbol::Open)?;
-    printer.name(name)?;
-    printer.symbol(Symbol::Close)
-}
-
-fn write_comparison(printer: &mut Printer, text: &Bytes) -> Result<(), AllocError> {
-    write_symbols(printer, &[Symbol::And, Symbol::Open])?;
-    printer.number(70)?;
-    printer.symbol(Symbol::Equals)?;
-    printer.text(text)?;
-    printer.symbol(Symbol::Close)
-}
-
-#[test]
-fn tokens_are_written(rt: HostRuntime) -> Result<(), Fail> {
-    let name = Name::from_string("v".to_string(rt.alloc())?);
-    let bytes = Bytes::from_vec(b"it's".to_vec(rt.alloc())?);
-    let mut printer = Printer::new(rt.alloc());
-    write_symbols(&mut printer, SYMBOLS)?;
-    write_greatest(&mut printer, &name)?;
-    write_comparison(&mut printer, &bytes)?;
-    let text = printer.into_vec();
-    assert_eq!(rt;
-        text.as_slice(),
-        b"SELECT COUNT(*), MAX(v) AND (70 = 'it''s')".as_slice()
-    );
-    Ok(())
 }
