@@ -1,7 +1,7 @@
 //! Fields are written one behind the other, and read up to the first fault.
 use frame_fields::{
-    be16, byte, digest, magic, provider_field, put, put_bytes, put_provider, put8, put16, put32,
-    put64, put128, start, take, version, within, within16, within32,
+    be16, byte, digest, magic, provider_field, put, put_bytes, put_provider, put8, put16, put64,
+    put128, start, take, version, within, within16, within32,
 };
 use spl_words::{Fields, FrameFault, Provider};
 use std::alloc::AllocError;
@@ -14,7 +14,7 @@ fn put_front(bytes: &mut Vec<u8>) -> Result<(), AllocError> {
 
 fn put_numbers(bytes: &mut Vec<u8>) -> Result<(), AllocError> {
     put16(bytes, 0x0203)?;
-    put32(bytes, 0x0405_0607)?;
+    put16(bytes, 0x0405)?;
     put64(bytes, 8)?;
     put128(bytes, 9)
 }
@@ -25,7 +25,7 @@ fn fields_are_written_one_behind_the_other(rt: HostRuntime) -> Result<(), AllocE
     put_front(&mut bytes)?;
     put_numbers(&mut bytes)?;
     let wanted =
-        b"SPLX\x01\x01\x02\x03\x04\x05\x06\x07\x00\x00\x00\x00\x00\x00\x00\x08\x00\x00\x00\x00\x00\x00\x00\x00\x00\x00\x00\x00\x00\x00\x00\x09";
+        b"SPLX\x01\x01\x02\x03\x04\x05\x00\x00\x00\x00\x00\x00\x00\x08\x00\x00\x00\x00\x00\x00\x00\x00\x00\x00\x00\x00\x00\x00\x00\x09";
     assert_eq!(rt; bytes.as_slice(), wanted.as_slice());
     Ok(())
 }

@@ -1,5 +1,4 @@
 //! What several modules test on.
-use std::alloc::{AllocError, Global};
 
 /// The text of a shape, as it is printed.
 pub const FLIGHTS_SHAPE: &[u8] =
@@ -8,15 +7,3 @@ pub const FLIGHTS_SHAPE: &[u8] =
 /// The text of a table of that shape, as it is written.
 pub const FLIGHTS: &[u8] =
     b"origin,dest,month,price\nSFO,JFK,3,300\nSFO,JFK,4,450\nSFO,BOS,3,200\nLAX,JFK,5,310\nSFO,JFK,5,600\n";
-
-/// The parts one behind the other, with the byte at a place changed.
-pub fn joined(alloc: Global, parts: &[&[u8]], at: usize, byte: u8) -> Result<Vec<u8>, AllocError> {
-    let mut bytes = Vec::new(alloc);
-    for part in parts {
-        bytes.extend_from_slice(part)?;
-    }
-    if let Some(place) = bytes.get_mut(at) {
-        *place = byte;
-    }
-    Ok(bytes)
-}

