@@ -14,8 +14,8 @@ pub fn empty_cell(out: &mut [u64])
     out.fill(0);
 }
 
-// The word of a merged cell, where the cells have `mine` and `theirs` rows and the words `a` and `b`:
-// that of the one cell that has rows, or what was picked of both.
+/// The word of a merged cell, where the cells have `mine` and `theirs` rows and the words `a` and `b`:
+/// that of the one cell that has rows, or what was picked of both.
 fn better(mine: u64, theirs: u64, a: u64, b: u64, picked: u64) -> u64
     ensures { (pick : ℕ → ℕ → ℕ) → picked ≡ pick a b → result ≡ better pick mine theirs a b }
 {
@@ -39,7 +39,7 @@ fn least_word(mine: u64, theirs: u64, a: u64, b: u64) -> u64
     better(mine, theirs, a, b, a.min(b))
 }
 
-// Merges the words of one item of cells with the counts `mine` and `theirs`.
+/// Merges the words of one item of cells with the counts `mine` and `theirs`.
 fn merge_words(item: CellItem, mine: u64, theirs: u64, into: &mut [u64], from: &[u64])
     requires into { length into.old ≡ item_width item }
     requires from { length from.now ≡ item_width item }
@@ -54,7 +54,7 @@ fn merge_words(item: CellItem, mine: u64, theirs: u64, into: &mut [u64], from: &
     }
 }
 
-// Merges one block.
+/// Merges one block.
 fn merge_one(items: &[CellItem], into: &mut [u64], from: &[u64])
     requires into { length into.old ≡ block_width items.now }
     requires from { length from.now ≡ block_width items.now }

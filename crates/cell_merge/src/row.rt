@@ -63,7 +63,7 @@ pub fn label_in(table: &Table, row: u32, column: u32) -> usize
     }
 }
 
-// The words of one item of a row, in words that are all 0.
+/// The words of one item of a row, in words that are all 0.
 fn row_words(item: CellItem, table: &Table, row: u32, out: &mut [u64])
     requires row { row < table.now.shape.rows }
     requires fits { ItemFits table.now.shape.schema.columns item }
@@ -87,7 +87,7 @@ fn row_words(item: CellItem, table: &Table, row: u32, out: &mut [u64])
     }
 }
 
-// The block of a row, in words that are all 0.
+/// The block of a row, in words that are all 0.
 fn row_block(items: &[CellItem], table: &Table, row: u32, out: &mut [u64])
     requires row { row < table.now.shape.rows }
     requires fits { All (ItemFits table.now.shape.schema.columns) items.now }

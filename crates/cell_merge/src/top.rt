@@ -7,7 +7,7 @@ ghost use Rattle.cell_merge.specs.Triples.{entry_at, kept, remainder, triples, w
 
 use crate::Entry;
 
-// Whether an entry comes before another.
+/// Whether an entry comes before another.
 fn comes_before(x: Entry, y: Entry) -> bool
     ensures { result ≡ before x y }
 {
@@ -34,7 +34,7 @@ pub(crate) fn write_entry(words: &mut [u64], i: usize, entry: Entry)
     words[3 * i + 2] = entry.show;
 }
 
-// Writes what is to stand at i, and gives what is to stand behind it. Once one was placed, each moves down by one.
+/// Writes what is to stand at i, and gives what is to stand behind it. Once one was placed, each moves down by one.
 fn push_down(words: &mut [u64], i: usize, moved: Entry, placed: bool) -> (Entry, bool)
     requires { 3 * i + 3 ≤ length words.old }
     ensures entries { (xs : List Entry) → entry_at words.new i ∷ remainder result.1 result.0 xs ≡ remainder placed moved (entry_at words.old i ∷ xs) }
@@ -53,7 +53,7 @@ fn push_down(words: &mut [u64], i: usize, moved: Entry, placed: bool) -> (Entry,
     (moved, false)
 }
 
-// Puts an entry into the first `used`, behind those that it does not come before; of more than `most` the last is lost.
+/// Puts an entry into the first `used`, behind those that it does not come before; of more than `most` the last is lost.
 fn insert(words: &mut [u64], most: usize, used: usize, entry: Entry) -> usize
     requires length { length words.old ≡ 3 * most }
     requires used { used ≤ most }
@@ -73,7 +73,7 @@ fn insert(words: &mut [u64], most: usize, used: usize, entry: Entry) -> usize
     used + 1
 }
 
-// Takes in an entry, unless its place is 0.
+/// Takes in an entry, unless its place is 0.
 fn take_in(words: &mut [u64], most: usize, used: usize, entry: Entry) -> usize
     requires length { length words.old ≡ 3 * most }
     requires used { used ≤ most }
@@ -87,7 +87,7 @@ fn take_in(words: &mut [u64], most: usize, used: usize, entry: Entry) -> usize
     insert(words, most, used, entry)
 }
 
-// Leaves the first `most` of the entries of both lists.
+/// Leaves the first `most` of the entries of both lists.
 pub(crate) fn merge_top(most: usize, into: &mut [u64], from: &[u64])
     requires into { length into.old ≡ 3 * most }
     requires from { length from.now ≡ 3 * most }

@@ -19,7 +19,7 @@ use query_reader::{Checked, Params, is_kept, laws as query_laws};
 use spl_values::Table;
 use std::alloc::{AllocError, Global};
 
-// Whether a row matches.
+/// Whether a row matches.
 fn matches(checked: &Checked, params: &Params, table: &Table, row: u32) -> bool
     requires row { row < table.now.shape.rows }
     requires checked { IsCheckedFor checked.now table.now.shape.schema }
@@ -38,7 +38,7 @@ fn matches(checked: &Checked, params: &Params, table: &Table, row: u32) -> bool
         )
 }
 
-// Merges the cell of a row, where it matches, into that of the rows before it. `own` is room for the row's cell.
+/// Merges the cell of a row, where it matches, into that of the rows before it. `own` is room for the row's cell.
 fn take_row(
     checked: &Checked,
     params: &Params,
@@ -64,14 +64,14 @@ fn take_row(
     merge_into(&checked.spec, all, own);
 }
 
-// So many words that are all 0.
+/// So many words that are all 0.
 fn zeros(alloc: Global, words: usize) -> Result<Vec<u64>, AllocError>
     ensures { IfOk result (λ zeros. zeros.items ≡ replicate words 0) }
 {
     Ok(vec![in alloc; 0u64; words]?)
 }
 
-// The cell of the rows that match.
+/// The cell of the rows that match.
 fn matching_cell(
     alloc: Global,
     checked: &Checked,
@@ -93,7 +93,7 @@ fn matching_cell(
     Ok(all)
 }
 
-// The clear answer, read from the cell of the rows that match.
+/// The clear answer, read from the cell of the rows that match.
 fn answer_over(
     alloc: Global,
     checked: &Checked,

@@ -6,7 +6,7 @@ ghost use Rattle.query_reader.specs.Matching.{branch_holds as branch_test, branc
 use cell_merge::code_at;
 use spl_values::Table;
 
-// Whether a range holds of a row, with the first two of these parameters.
+/// Whether a range holds of a row, with the first two of these parameters.
 fn range_holds(column: u32, params: &[u128], table: &Table, row: u32) -> bool
     requires row { row < table.now.shape.rows }
     requires column { column < length table.now.shape.schema.columns }
@@ -19,7 +19,7 @@ fn range_holds(column: u32, params: &[u128], table: &Table, row: u32) -> bool
     }
 }
 
-// Whether a branch holds of a row, with the first of these parameters.
+/// Whether a branch holds of a row, with the first of these parameters.
 fn branch_holds(columns: &[u32], range: bool, params: &[u128], table: &Table, row: u32) -> bool
     requires row { row < table.now.shape.rows }
     requires columns { All (λ column. column < length table.now.shape.schema.columns) columns.now }
@@ -42,7 +42,7 @@ fn branch_holds(columns: &[u32], range: bool, params: &[u128], table: &Table, ro
     }
 }
 
-// How many parameters a branch has.
+/// How many parameters a branch has.
 fn param_count(columns: &[u32], range: bool) -> usize
     ensures { result ≡ branch_params columns.now range }
 {

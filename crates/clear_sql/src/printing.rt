@@ -13,7 +13,7 @@ use cell_merge::{CellItem, CellSpec};
 use spl_values::{Bytes, Column, Schema, Value, print_value};
 use std::alloc::{AllocError, Global};
 
-// Adds a number in decimal.
+/// Adds a number in decimal.
 fn push_number(alloc: Global, text: &mut Vec<u8>, number: u64) -> Result<(), AllocError>
     ensures { OnOk result (text.new.items ≡ text.old.items ++ decimal number) }
 {
@@ -22,7 +22,7 @@ fn push_number(alloc: Global, text: &mut Vec<u8>, number: u64) -> Result<(), All
     Ok(())
 }
 
-// Adds a column's name.
+/// Adds a column's name.
 fn push_name(text: &mut Vec<u8>, columns: &[Column], column: u32) -> Result<(), AllocError>
     requires { column < length columns.now }
     ensures { OnOk result (text.new.items ≡ text.old.items ++ name_in columns.now column) }
@@ -32,7 +32,7 @@ fn push_name(text: &mut Vec<u8>, columns: &[Column], column: u32) -> Result<(), 
     Ok(())
 }
 
-// Adds a value of a column.
+/// Adds a value of a column.
 fn push_value(
     alloc: Global,
     text: &mut Vec<u8>,
@@ -50,7 +50,7 @@ fn push_value(
     Ok(())
 }
 
-// Adds the word of an item, a column in parentheses and what ends it.
+/// Adds the word of an item, a column in parentheses and what ends it.
 fn push_call(
     text: &mut Vec<u8>,
     word: &[u8],
@@ -66,7 +66,7 @@ fn push_call(
     Ok(())
 }
 
-// Adds an item of the best rows as a query writes it.
+/// Adds an item of the best rows as a query writes it.
 fn push_top(
     alloc: Global,
     text: &mut Vec<u8>,
@@ -88,7 +88,7 @@ fn push_top(
     Ok(())
 }
 
-// Adds an item as a query writes it.
+/// Adds an item as a query writes it.
 #[tactic(auto, unfolding(crate::specs::AnswerText::item_text))]
 fn push_item(
     alloc: Global,
@@ -112,7 +112,7 @@ fn push_item(
     }
 }
 
-// Adds the line of one of the best rows.
+/// Adds the line of one of the best rows.
 #[tactic(auto, unfolding(crate::specs::AnswerText::row_line))]
 fn push_row(
     alloc: Global,
@@ -135,7 +135,7 @@ fn push_row(
     Ok(())
 }
 
-// Adds the lines of the best rows.
+/// Adds the lines of the best rows.
 fn push_rows(
     alloc: Global,
     text: &mut Vec<u8>,
@@ -154,7 +154,7 @@ fn push_rows(
     Ok(())
 }
 
-// Adds a fraction that isn't reduced.
+/// Adds a fraction that isn't reduced.
 fn push_fraction(alloc: Global, text: &mut Vec<u8>, sum: u64, count: u64) -> Result<(), AllocError>
     ensures { OnOk result (text.new.items ≡ text.old.items ++ (decimal sum ++ codes "/" ++ decimal count)) }
 {
@@ -164,7 +164,7 @@ fn push_fraction(alloc: Global, text: &mut Vec<u8>, sum: u64, count: u64) -> Res
     Ok(())
 }
 
-// The column whose greatest or least value an item gives.
+/// The column whose greatest or least value an item gives.
 fn best_column(item: CellItem) -> Option<u32>
     ensures { result ≡ best_column item }
 {
@@ -174,7 +174,7 @@ fn best_column(item: CellItem) -> Option<u32>
     }
 }
 
-// The sort column and the shown one of an item that gives the best rows.
+/// The sort column and the shown one of an item that gives the best rows.
 fn top_columns(item: CellItem) -> Option<(u32, u32)>
     ensures { result ≡ top_columns item }
 {
@@ -185,7 +185,7 @@ fn top_columns(item: CellItem) -> Option<(u32, u32)>
     }
 }
 
-// Adds the greatest or least value of a column.
+/// Adds the greatest or least value of a column.
 fn push_best(
     alloc: Global,
     text: &mut Vec<u8>,
@@ -203,7 +203,7 @@ fn push_best(
     }
 }
 
-// Adds what stands behind the item in the first line of an outcome.
+/// Adds what stands behind the item in the first line of an outcome.
 fn push_outcome(
     alloc: Global,
     text: &mut Vec<u8>,
@@ -228,7 +228,7 @@ fn push_outcome(
     }
 }
 
-// Adds the lines of the best rows by their two columns.
+/// Adds the lines of the best rows by their two columns.
 fn push_top_rows(
     alloc: Global,
     text: &mut Vec<u8>,
@@ -246,7 +246,7 @@ fn push_top_rows(
     }
 }
 
-// Adds the lines below the first one of an outcome.
+/// Adds the lines below the first one of an outcome.
 fn push_below(
     alloc: Global,
     text: &mut Vec<u8>,
@@ -274,7 +274,7 @@ fn push_below(
     }
 }
 
-// Adds the lines of an outcome.
+/// Adds the lines of an outcome.
 fn push_result(
     alloc: Global,
     text: &mut Vec<u8>,
@@ -294,7 +294,7 @@ fn push_result(
     Ok(())
 }
 
-// Adds the lines of the outcomes of some items.
+/// Adds the lines of the outcomes of some items.
 fn push_results(
     alloc: Global,
     text: &mut Vec<u8>,
@@ -312,7 +312,7 @@ fn push_results(
     Ok(())
 }
 
-// Adds the line that begins a group.
+/// Adds the line that begins a group.
 #[tactic(auto, unfolding(crate::specs::AnswerText::group_line))]
 fn push_label(
     alloc: Global,
@@ -336,7 +336,7 @@ fn push_label(
     }
 }
 
-// Adds the lines of a group.
+/// Adds the lines of a group.
 fn push_group(
     alloc: Global,
     text: &mut Vec<u8>,
@@ -359,7 +359,7 @@ fn push_group(
     Ok(())
 }
 
-// Adds the lines of groups.
+/// Adds the lines of groups.
 fn push_groups(
     alloc: Global,
     text: &mut Vec<u8>,
@@ -377,7 +377,7 @@ fn push_groups(
     Ok(())
 }
 
-// The text of an answer.
+/// The text of an answer.
 pub(crate) fn answer_text(
     alloc: Global,
     spec: &CellSpec,

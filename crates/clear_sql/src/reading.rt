@@ -13,7 +13,7 @@ use cell_merge::{CellItem, CellSpec, block_words, item_words};
 use spl_values::{Column, Schema, Value, decode, laws};
 use std::alloc::{AllocError, Global};
 
-// The value of a column with that code.
+/// The value of a column with that code.
 fn value_of(columns: &[Column], column: u32, code: u64) -> Value
     requires column { column < length columns.now }
     requires code { IsCode (kind_in columns.now column) code }
@@ -27,7 +27,7 @@ fn value_of(columns: &[Column], column: u32, code: u64) -> Value
     }
 }
 
-// Adds the entry that three words hold, unless its place is 0.
+/// Adds the entry that three words hold, unless its place is 0.
 fn push_entry(
     rows: &mut Vec<TopRow>,
     columns: &[Column],
@@ -55,7 +55,7 @@ fn push_entry(
     Ok(())
 }
 
-// The entries in some words, but for those whose place is 0.
+/// The entries in some words, but for those whose place is 0.
 fn top_rows(
     alloc: Global,
     columns: &[Column],
@@ -74,14 +74,14 @@ fn top_rows(
     Ok(TopRows::from_vec(rows))
 }
 
-// An outcome, or none where there is no row.
+/// An outcome, or none where there is no row.
 fn over_rows(count: u64, outcome: Outcome) -> Outcome
     ensures { result ≡ (if count == 0 then Outcome.Null else outcome) }
 {
     if count == 0 { Outcome::Null } else { outcome }
 }
 
-// What an item's words say, beside a count of rows.
+/// What an item's words say, beside a count of rows.
 fn outcome_of(
     alloc: Global,
     columns: &[Column],
@@ -109,7 +109,7 @@ fn outcome_of(
     }
 }
 
-// What a block says.
+/// What a block says.
 fn results_of(
     alloc: Global,
     columns: &[Column],
@@ -133,7 +133,7 @@ fn results_of(
     Ok(Outcomes::from_vec(results))
 }
 
-// Adds the group of a label's block, unless its count is 0.
+/// Adds the group of a label's block, unless its count is 0.
 fn push_label(
     alloc: Global,
     groups: &mut Vec<Group>,
@@ -159,7 +159,7 @@ fn push_label(
     Ok(())
 }
 
-// The groups of the labels whose count isn't 0.
+/// The groups of the labels whose count isn't 0.
 fn groups_of(
     alloc: Global,
     columns: &[Column],
@@ -189,7 +189,7 @@ fn groups_of(
     Ok(Groups::from_vec(groups))
 }
 
-// The one group of a cell of one block.
+/// The one group of a cell of one block.
 fn whole_group(
     alloc: Global,
     columns: &[Column],
@@ -210,7 +210,7 @@ fn whole_group(
     Ok(Groups::from_vec(groups))
 }
 
-// The groups of a cell.
+/// The groups of a cell.
 fn groups_in(
     alloc: Global,
     columns: &[Column],
@@ -234,7 +234,7 @@ fn groups_in(
     }
 }
 
-// The answer that a cell stands for.
+/// The answer that a cell stands for.
 pub(crate) fn cell_answer(
     alloc: Global,
     spec: &CellSpec,

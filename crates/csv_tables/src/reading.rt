@@ -19,7 +19,7 @@ use csv::{ByteRecord, ErrorKind, Reader, ReaderBuilder};
 use spl_values::{Column, Value, value_of};
 use std::alloc::{AllocError, Global};
 
-// A reader of the records of these bytes.
+/// A reader of the records of these bytes.
 fn reader_of(alloc: Global, bytes: &[u8]) -> Reader<&[u8]>
     ensures { StandsAt result states.StartRecord (strip_bom bytes.now) }
 {
@@ -29,8 +29,8 @@ fn reader_of(alloc: Global, bytes: &[u8]) -> Reader<&[u8]>
         .from_reader(alloc, bytes)
 }
 
-// The next record, and whether there is one. Over bytes in memory want of memory is the one cause
-// of an error, since a record of any length is taken, and its fields need be no text.
+/// The next record, and whether there is one. Over bytes in memory want of memory is the one cause
+/// of an error, since a record of any length is taken, and its fields need be no text.
 fn next_record(reader: &mut Reader<&[u8]>, byte_record: &mut ByteRecord) -> Result<bool, AllocError>
     requires { (s : State) × (text : List ℕ) × StandsAt reader.old s text }
     ensures { IfOk result (λ found. (s : State) (text : List ℕ) → StandsAt reader.old s text
@@ -48,7 +48,7 @@ fn next_record(reader: &mut Reader<&[u8]>, byte_record: &mut ByteRecord) -> Resu
     }
 }
 
-// Whether a record is the column names, in order.
+/// Whether a record is the column names, in order.
 fn is_header(columns: &[Column], byte_record: &ByteRecord) -> bool
     ensures { result ≡ pointwise bytes_eq (fields_of byte_record.now) (names_of columns.now) }
 {
@@ -66,7 +66,7 @@ fn is_header(columns: &[Column], byte_record: &ByteRecord) -> bool
     true
 }
 
-// The value of a field, or the fault of its cell.
+/// The value of a field, or the fault of its cell.
 fn cell_value(column: &Column, field: &[u8], row: u32, place: u32) -> Result<Value, TableFault>
     ensures { result ≡ cell_of row place (value_of_text column.now.kind field.now) }
 {
@@ -83,7 +83,7 @@ fn push(cells: &mut Vec<Value>, value: Value) -> Result<(), AllocError>
     Ok(())
 }
 
-// Puts the values of a record, the row of that number, behind the others.
+/// Puts the values of a record, the row of that number, behind the others.
 fn push_row(
     cells: &mut Vec<Value>,
     columns: &[Column],

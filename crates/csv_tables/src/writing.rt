@@ -16,7 +16,7 @@ fn new_writer(alloc: Global) -> Writer<Vec<u8>>
     WriterBuilder::new().from_writer(Vec::new(alloc))
 }
 
-// The text that a writer has written.
+/// The text that a writer has written.
 fn text_of(writer: Writer<Vec<u8>>) -> Result<Vec<u8>, AllocError>
     ensures { IfOk result (λ v. (text : List ℕ) → HasWritten writer text → v.items ≡ text) }
 {
@@ -36,7 +36,7 @@ fn slices_of(alloc: Global, fields: &[Bytes]) -> Result<Vec<&[u8]>, AllocError>
     Ok(slices)
 }
 
-// Writes one record.
+/// Writes one record.
 fn write_record(
     alloc: Global,
     writer: &mut Writer<Vec<u8>>,
@@ -51,7 +51,7 @@ fn write_record(
     }
 }
 
-// The names of columns, as fields.
+/// The names of columns, as fields.
 fn name_fields(alloc: Global, columns: &[Column]) -> Result<Vec<Bytes>, AllocError>
     ensures { IfOk result (λ fields. fields.items ≡ names_of columns.now) }
 {
@@ -63,7 +63,7 @@ fn name_fields(alloc: Global, columns: &[Column]) -> Result<Vec<Bytes>, AllocErr
     Ok(fields)
 }
 
-// The fields of a row.
+/// The fields of a row.
 fn row_fields(alloc: Global, table: &Table, row: u32) -> Result<Vec<Bytes>, AllocError>
     requires { row < table.now.shape.rows }
     ensures { IfOk result (λ fields. fields.items ≡ fields_of_row table.now.shape.schema.columns (slice_index_or table.now.rows row [])) }
@@ -79,7 +79,7 @@ fn row_fields(alloc: Global, table: &Table, row: u32) -> Result<Vec<Bytes>, Allo
     Ok(fields)
 }
 
-// Writes the rows of a table, each as one record.
+/// Writes the rows of a table, each as one record.
 fn write_rows(alloc: Global, writer: &mut Writer<Vec<u8>>, table: &Table) -> Result<(), AllocError>
     ensures { OnOk result ((text : List ℕ) → HasWritten writer.old text
         → HasWritten writer.new (text ++ records_text (map (fields_of_row table.now.shape.schema.columns) table.now.rows))) }

@@ -6,7 +6,7 @@ ghost use Rattle.query_reader.specs.Matching.{bound_holds as bound_test, is_kept
 use cell_merge::code_at;
 use spl_values::Table;
 
-// Whether a public condition holds of a row.
+/// Whether a public condition holds of a row.
 fn bound_holds(table: &Table, row: u32, bound: (u32, u128, u128)) -> bool
     requires row { row < table.now.shape.rows }
     requires column { bound.0 < length table.now.shape.schema.columns }

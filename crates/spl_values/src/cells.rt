@@ -12,7 +12,7 @@ use crate::lists::{Bytes, Labels, Name};
 use crate::values::{Value, ValueFault};
 use std::alloc::{AllocError, Global};
 
-// Whether a byte is a decimal digit.
+/// Whether a byte is a decimal digit.
 fn is_digit(byte: u8) -> bool
     ensures { result ≡ is_ascii_digit byte }
 {
@@ -48,7 +48,7 @@ pub fn number(text: &[u8]) -> Result<u64, ValueFault>
     }
 }
 
-// The value of a text in a column of numbers of that many bits.
+/// The value of a text in a column of numbers of that many bits.
 fn number_in(bits: u32, text: &[u8]) -> Result<Value, ValueFault>
     requires { (1 ≤ bits) × (bits ≤ 64) }
     ensures { result ≡ number_value (number_of_text bits text.now) }
@@ -61,7 +61,7 @@ fn number_in(bits: u32, text: &[u8]) -> Result<Value, ValueFault>
     }
 }
 
-// The place of the first byte that isn't printable.
+/// The place of the first byte that isn't printable.
 fn first_unprintable(text: &[u8]) -> Option<usize>
     ensures { result ≡ position (λ b. not (is_printable b)) text.now }
 {
@@ -69,7 +69,7 @@ fn first_unprintable(text: &[u8]) -> Option<usize>
         .position(|byte| !kept_texts::is_printable(*byte))
 }
 
-// The value of a text in a column of texts of at most so many bytes.
+/// The value of a text in a column of texts of at most so many bytes.
 fn text_in(bytes: u32, text: &[u8]) -> Result<Value, ValueFault>
     requires { bytes ≤ 16 }
     ensures { result ≡ text_value bytes text.now }
@@ -83,7 +83,7 @@ fn text_in(bytes: u32, text: &[u8]) -> Result<Value, ValueFault>
     }
 }
 
-// The place of a label.
+/// The place of a label.
 fn place_of(labels: &[Name], text: &[u8]) -> Option<usize>
     ensures place { result ≡ position (λ label. bytes_eq label text.now) labels.now }
     ensures within { IfSome result (λ place. place < length labels.now) }
@@ -91,7 +91,7 @@ fn place_of(labels: &[Name], text: &[u8]) -> Option<usize>
     labels.iter().position(|label| label.as_bytes() == text)
 }
 
-// The value of a text in a column of these labels.
+/// The value of a text in a column of these labels.
 fn label_in(labels: &Labels, text: &[u8]) -> Result<Value, ValueFault>
     requires { length labels.now ≤ 64 }
     ensures { result ≡ label_value (position (λ label. bytes_eq label text.now) labels.now) }

@@ -26,7 +26,7 @@ pub fn cut(text: &[u8], at: u8) -> (&[u8], Option<&[u8]>)
     }
 }
 
-// A line without the carriage return at its end, if it has one.
+/// A line without the carriage return at its end, if it has one.
 fn without_return(line: &[u8]) -> &[u8]
     ensures { result.now ≡ strip_carriage_return line.now }
 {

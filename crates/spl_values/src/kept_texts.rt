@@ -12,8 +12,8 @@ pub fn is_printable(byte: u8) -> bool
     byte >= 0x20 && byte <= 0x7e
 }
 
-// The first byte of the text of at most so many bytes that is kept as that number, and the number of
-// the text behind it.
+/// The first byte of the text of at most so many bytes that is kept as that number, and the number of
+/// the text behind it.
 fn first_byte(kept: u128, places: u32) -> Option<(u8, u128)>
     requires few { places ≤ 16 }
     requires below { kept < 256 ^ places }
@@ -26,7 +26,7 @@ fn first_byte(kept: u128, places: u32) -> Option<(u8, u128)>
     Some(((kept / unit) as u8, kept % unit))
 }
 
-// The number of bytes of the text that is kept as that number, if all of them are printable.
+/// The number of bytes of the text that is kept as that number, if all of them are printable.
 fn text_len(kept: u128) -> Option<u32>
     ensures printable { IfSome result (λ n. IsTrue (list_all is_printable (text_of kept)) × (n ≡ length (text_of kept))) }
     ensures other { IfNone result (list_all is_printable (text_of kept) ≡ false) }

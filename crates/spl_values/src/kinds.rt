@@ -22,7 +22,7 @@ pub enum ColumnType {
     Enum(Labels),
 }
 
-// Whether no two labels are the same.
+/// Whether no two labels are the same.
 fn are_distinct(labels: &[Name]) -> bool
     ensures { result ≡ is_distinct labels.now }
 {

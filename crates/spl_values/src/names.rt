@@ -23,14 +23,14 @@ fn is_label_byte(byte: u8) -> bool
     is_name_byte(byte) || byte == b'-'
 }
 
-// Whether two words are the same but for the case of letters.
+/// Whether two words are the same but for the case of letters.
 fn is_same_word(word: &[u8], other: &[u8]) -> bool
     ensures { result ≡ is_same_word word.now other.now }
 {
     word.eq_ignore_ascii_case(other)
 }
 
-// Whether a word is the same as one of some words but for the case of letters.
+/// Whether a word is the same as one of some words but for the case of letters.
 fn is_any_word(word: &[u8], others: &[&[u8]]) -> bool
     ensures { result ≡ list_any (λ other. is_same_word word.now other.now) others.now }
 {
@@ -61,9 +61,9 @@ fn are_label_bytes(text: &[u8]) -> bool
     text.iter().all(|byte| is_label_byte(*byte))
 }
 
-#[tactic(auto, unfolding(crate::specs::Names::is_name))]
 /// Whether a text may be a name: 1 to 32 bytes, a letter or an underscore first, then letters,
 /// digits and underscores, and no reserved word.
+#[tactic(auto, unfolding(crate::specs::Names::is_name))]
 pub fn is_name(text: &[u8]) -> bool
     ensures { result ≡ is_name text.now }
 {
@@ -75,8 +75,8 @@ pub fn is_name(text: &[u8]) -> bool
     }
 }
 
-#[tactic(auto, unfolding(crate::specs::Names::is_label))]
 /// Whether a text may be a label: 1 to 32 letters, digits, underscores and minus signs.
+#[tactic(auto, unfolding(crate::specs::Names::is_label))]
 pub fn is_label(text: &[u8]) -> bool
     ensures { result ≡ is_label text.now }
 {

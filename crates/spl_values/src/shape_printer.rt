@@ -9,7 +9,7 @@ use crate::kinds::ColumnType;
 use crate::lists::{Bytes, Name};
 use std::alloc::{AllocError, Global};
 
-// The labels of a type, with a bar between two of them.
+/// The labels of a type, with a bar between two of them.
 fn labels_text(alloc: Global, labels: &[Name]) -> Result<Vec<u8>, AllocError>
     ensures { IfOk result (λ text. text.items ≡ join_with_byte 124 labels.now) }
 {
@@ -23,7 +23,7 @@ fn labels_text(alloc: Global, labels: &[Name]) -> Result<Vec<u8>, AllocError>
     Ok(text)
 }
 
-// What stands between the parentheses of a type.
+/// What stands between the parentheses of a type.
 fn kind_inside(alloc: Global, kind: &ColumnType) -> Result<Vec<u8>, AllocError>
     ensures { IfOk result (λ text. text.items ≡ kind_inside kind.now) }
 {
@@ -35,7 +35,7 @@ fn kind_inside(alloc: Global, kind: &ColumnType) -> Result<Vec<u8>, AllocError>
     }
 }
 
-// The word that begins a type.
+/// The word that begins a type.
 fn kind_word(kind: &ColumnType) -> &'static [u8]
     ensures { result.now ≡ kind_word kind.now }
 {
@@ -46,8 +46,8 @@ fn kind_word(kind: &ColumnType) -> &'static [u8]
     }
 }
 
+/// The line of a column, with its end.
 #[tactic(auto, unfolding(crate::specs::ShapeTexts::column_line, crate::specs::ShapeTexts::kind_text))]
-// The line of a column, with its end.
 fn push_column(alloc: Global, text: &mut Vec<u8>, column: &Column) -> Result<(), AllocError>
     ensures { OnOk result (text.new.items ≡ text.old.items ++ (column_line column.now ++ 10 ∷ [])) }
 {
@@ -60,7 +60,7 @@ fn push_column(alloc: Global, text: &mut Vec<u8>, column: &Column) -> Result<(),
     Ok(())
 }
 
-// The lines of columns, each with its end.
+/// The lines of columns, each with its end.
 fn push_columns(alloc: Global, text: &mut Vec<u8>, columns: &[Column]) -> Result<(), AllocError>
     ensures { OnOk result (text.new.items ≡ text.old.items ++ text_of_lines (map column_line columns.now)) }
 {
@@ -70,8 +70,8 @@ fn push_columns(alloc: Global, text: &mut Vec<u8>, columns: &[Column]) -> Result
     Ok(())
 }
 
+/// The first two lines, each with its end.
 #[tactic(auto, unfolding(crate::specs::ShapeTexts::text_of_lines))]
-// The first two lines, each with its end.
 fn first_lines(alloc: Global, table: &Name, rows: u32) -> Result<Vec<u8>, AllocError>
     ensures { IfOk result (λ text. text.items ≡ text_of_lines ((codes "table " ++ table.now) ∷ (codes "rows " ++ decimal rows) ∷ [])) }
 {

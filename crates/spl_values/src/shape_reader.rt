@@ -56,8 +56,8 @@ fn after_prefix<'a>(prefix: &[u8], text: &'a [u8]) -> Option<&'a [u8]>
     text.strip_prefix(prefix)
 }
 
+/// What stands between a prefix and a closing parenthesis at the end.
 #[tactic(auto, unfolding(crate::specs::ShapeTexts::between))]
-// What stands between a prefix and a closing parenthesis at the end.
 fn between<'a>(prefix: &[u8], text: &'a [u8]) -> Option<&'a [u8]>
     ensures { option_copied result ≡ between prefix.now text.now }
 {
@@ -67,7 +67,7 @@ fn between<'a>(prefix: &[u8], text: &'a [u8]) -> Option<&'a [u8]>
     }
 }
 
-// The number of a text without leading zeros, or the greatest `u32` where that is greater.
+/// The number of a text without leading zeros, or the greatest `u32` where that is greater.
 fn plain_number(text: &[u8]) -> Option<u32>
     ensures { result ≡ option_map (λ n. min n (2 ^ 32 - 1)) (plain_number text.now) }
 {
@@ -83,7 +83,7 @@ fn plain_number(text: &[u8]) -> Option<u32>
     }
 }
 
-// The name with these bytes.
+/// The name with these bytes.
 fn name_of(alloc: Global, bytes: &[u8]) -> Result<Name, AllocError>
     requires { IsTrue (list_all is_label_byte bytes.now) }
     ensures { IfOk result (λ name. name ≡ bytes.now) }
@@ -94,14 +94,14 @@ fn name_of(alloc: Global, bytes: &[u8]) -> Result<Name, AllocError>
     }
 }
 
-// A type, if a column may have it.
+/// A type, if a column may have it.
 fn if_kind(kind: ColumnType) -> Option<ColumnType>
     ensures { result ≡ if_kind kind }
 {
     if is_kind(&kind) { Some(kind) } else { None }
 }
 
-// The labels of a type, with a bar between two of them.
+/// The labels of a type, with a bar between two of them.
 fn read_labels(alloc: Global, text: &[u8]) -> Result<Option<ColumnType>, AllocError>
     ensures { IfOk result (λ kind. kind ≡ if_kind (any_kind.Enum (slice_split (λ b. b == 124) text.now))) }
 {
@@ -118,22 +118,22 @@ fn read_labels(alloc: Global, text: &[u8]) -> Result<Option<ColumnType>, AllocEr
     Ok(if_kind(ColumnType::Enum(Labels::from_vec(labels))))
 }
 
-// A type of numbers, from the digits of its bits.
+/// A type of numbers, from the digits of its bits.
 fn number_kind(digits: &[u8]) -> Option<ColumnType>
     ensures { result ≡ option_and_then (λ b. if_kind (any_kind.Uint b)) (plain_number digits.now) }
 {
     if_kind(ColumnType::Uint(plain_number(digits)?))
 }
 
-// A type of texts, from the digits of its bytes.
+/// A type of texts, from the digits of its bytes.
 fn text_kind(digits: &[u8]) -> Option<ColumnType>
     ensures { result ≡ option_and_then (λ k. if_kind (any_kind.Text k)) (plain_number digits.now) }
 {
     if_kind(ColumnType::Text(plain_number(digits)?))
 }
 
+/// The type that a text spells, if a column may have it.
 #[tactic(auto, unfolding(crate::specs::ShapeTexts::kind_of_text))]
-// The type that a text spells, if a column may have it.
 fn read_kind(alloc: Global, text: &[u8]) -> Result<Option<ColumnType>, AllocError>
     ensures { IfOk result (λ kind. kind ≡ kind_of_text text.now) }
 {
@@ -149,7 +149,7 @@ fn read_kind(alloc: Global, text: &[u8]) -> Result<Option<ColumnType>, AllocErro
     }
 }
 
-// The column of a line.
+/// The column of a line.
 fn read_column(alloc: Global, line: &[u8]) -> Result<Option<Column>, AllocError>
     ensures { IfOk result (λ column. column ≡ column_of_line line.now) }
 {
@@ -167,8 +167,8 @@ fn read_column(alloc: Global, line: &[u8]) -> Result<Option<Column>, AllocError>
     Ok(Some(Column { name, kind }))
 }
 
+/// Line 1, the table's name.
 #[tactic(auto, unfolding(crate::specs::ShapeTexts::table_of_line))]
-// Line 1, the table's name.
 fn read_table_name(alloc: Global, line: &[u8]) -> Result<Name, ShapeFault>
     ensures ok { IfOk result (λ name. table_of_line line.now ≡ Ok name) }
     ensures err { IfErr result (λ fault. fault ≢ no_memory → table_of_line line.now ≡ Err fault) }
@@ -179,8 +179,8 @@ fn read_table_name(alloc: Global, line: &[u8]) -> Result<Name, ShapeFault>
     }
 }
 
+/// Line 2, the number of rows.
 #[tactic(auto, unfolding(crate::specs::ShapeTexts::rows_of_line))]
-// Line 2, the number of rows.
 fn read_rows(line: &[u8]) -> Result<u32, ShapeFault>
     ensures { result ≡ rows_of_line line.now }
 {
@@ -194,7 +194,7 @@ fn read_rows(line: &[u8]) -> Result<u32, ShapeFault>
     }
 }
 
-// Whether one of the columns has that column's name.
+/// Whether one of the columns has that column's name.
 fn has_name_of(columns: &[Column], column: &Column) -> bool
     ensures { result ≡ list_any (λ other. bytes_eq column.now.name other.name) columns.now }
 {
@@ -202,7 +202,7 @@ fn has_name_of(columns: &[Column], column: &Column) -> bool
     columns.iter().any(|other| *name == other.name)
 }
 
-// The column of a line that comes behind other column lines.
+/// The column of a line that comes behind other column lines.
 fn read_next(alloc: Global, before: &[Column], line: &[u8]) -> Result<Column, ShapeFault>
     requires { length before.now ≤ 24 }
     ensures ok { IfOk result (λ column. added (length before.now + 3) before.now (column_of_line line.now) ≡ Ok (before.now ++ column ∷ [])) }
@@ -225,7 +225,7 @@ fn push(columns: &mut Vec<Column>, column: Column) -> Result<(), AllocError>
     Ok(())
 }
 
-// The column lines of a text, which are all of its lines.
+/// The column lines of a text, which are all of its lines.
 fn read_columns(alloc: Global, text: &[u8]) -> Result<Columns, ShapeFault>
     ensures ok { IfOk result (λ columns. columns_of_lines [] (lines text.now) ≡ Ok columns) }
     ensures err { IfErr result (λ fault. fault ≢ no_memory → columns_of_lines [] (lines text.now) ≡ Err fault) }

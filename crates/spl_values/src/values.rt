@@ -64,7 +64,7 @@ pub fn encode(kind: &ColumnType, value: Value) -> u128
     }
 }
 
-// The only value of the column that may have that code; `None` where it is too large for a value.
+/// The only value of the column that may have that code; `None` where it is too large for a value.
 fn candidate(kind: &ColumnType, code: u128) -> Option<Value>
     requires { IsTrue (is_kind kind.now) }
     ensures { MatchOption result

@@ -38,7 +38,7 @@ fn number_of(value: Value) -> u64
     }
 }
 
-// What a row adds to the sum of a column.
+/// What a row adds to the sum of a column.
 fn number_at(table: &Table, row: u32, column: u32) -> u64
     requires row { row < table.now.shape.rows }
     requires column { column < length table.now.shape.schema.columns }
@@ -68,7 +68,7 @@ pub fn check_sum(table: &Table, column: u32) -> Result<u64, AtRow>
     Ok(total)
 }
 
-// Whether the sum of a column is within its bound.
+/// Whether the sum of a column is within its bound.
 fn check_column(table: &Table, column: u32) -> Result<(), SumFault>
     requires { column < length table.now.shape.schema.columns }
     ensures { result ≡ unless_over column (first_over table.now.shape.schema.columns column (rows_of table.now)) }
@@ -79,7 +79,7 @@ fn check_column(table: &Table, column: u32) -> Result<(), SumFault>
     }
 }
 
-// Whether an item has no sum, or one within its bound.
+/// Whether an item has no sum, or one within its bound.
 fn check_item(table: &Table, item: CellItem) -> Result<(), SumFault>
     requires { HasColumns table.now.shape.schema.columns item }
     ensures { result ≡ item_bounded table.now item }

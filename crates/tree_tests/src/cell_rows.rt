@@ -33,8 +33,8 @@ fn column(rt: &HostRuntime, text: &str, kind: ColumnType) -> Result<Column, Allo
     Ok(Column { name, kind })
 }
 
+/// Columns `k ENUM(red|green|blue)` and `v UINT(8)`, and the rows `blue,9` and `red,4`.
 #[tactic(auto, unfolding(spl_values::specs::Names::is_name, spl_values::specs::Names::is_label, spl_values::specs::Names::reserved_words, spl_values::specs::Tables::rows_of_cells))]
-// Columns `k ENUM(red|green|blue)` and `v UINT(8)`, and the rows `blue,9` and `red,4`.
 fn table(rt: &HostRuntime) -> Result<Table, AllocError>
     ensures { IfOk result (λ t. (t.shape.schema.columns ≡ record { name = codes "k"; kind = ColumnType.Enum (codes "red" ∷ codes "green" ∷ codes "blue" ∷ []) } ∷ record { name = codes "v"; kind = ColumnType.Uint 8 } ∷ []) × (t.shape.rows ≡ 2)) }
 {
