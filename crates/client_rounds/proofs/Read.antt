@@ -25,7 +25,7 @@ use Rattle.combiner.specs.Finals.{last_words, good_words, merged_alone, final_of
 use Rattle.client_rounds.specs.declared.faults.Source.{Source}
 use Rattle.client_rounds.specs.declared.faults.Source.TheVariants as source
 use Rattle.client_rounds.specs.declared.judging.Judged.{Judged}
-use Rattle.client_rounds.specs.Finishing.{note_in, answer_in, result_of, answered, finished}
+use Rattle.client_rounds.specs.Finishing.{note_in, answer_in, result_of, text_of_answers, finished}
 
 pub note_read : (bytes : List ℕ) (n : Note) → NoteOf bytes n → frame_at note_fields_at bytes ≡ Ok n
 note_read bytes n of =
@@ -53,7 +53,7 @@ result_is j a b words groups both final = rw (both, final) refl
 
 pub finished_is : (note a b : List ℕ) (j : Judged) (first second : AnswerFrame) (text : List ℕ) → note_in note ≡ Ok j → answer_in source.First a ≡ Ok first → answer_in source.Second b ≡ Ok second
     → result_of j first second ≡ Ok text → finished note a b ≡ Ok text
-unfolding finished answered
+unfolding finished text_of_answers
 finished_is note a b j first second text judged one two result = rw (judged, one, two) result
 
 pub final_is : (checked : Checked) (shape : ShapeParts) (words : List ℕ) (groups : List Group) → good_words (block_width checked.spec.items) shape.rows 0 words ≡ Ok tt → merged_alone checked.spec words ≡ words

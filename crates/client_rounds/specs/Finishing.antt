@@ -91,8 +91,8 @@ result_of j a b = do
   Ok (answer_text j.note.shape.schema.columns j.checked.spec groups)
 
 -- the same of the bytes of two answers
-unfoldable pub answered : Judged → List ℕ → List ℕ → Result (List ℕ) AskFault
-answered j a b = do
+unfoldable pub text_of_answers : Judged → List ℕ → List ℕ → Result (List ℕ) AskFault
+text_of_answers j a b = do
   first ← answer_in source.First a
   second ← answer_in source.Second b
   result_of j first second
@@ -101,4 +101,4 @@ answered j a b = do
 unfoldable pub finished : List ℕ → List ℕ → List ℕ → Result (List ℕ) AskFault
 finished note a b = do
   j ← note_in note
-  answered j a b
+  text_of_answers j a b

@@ -5,7 +5,7 @@ ghost use Rattle.combiner.specs.Combining.{combined};
 ghost use Rattle.combiner.specs.Finals.{last_words as words_of_last, final_of};
 ghost use Rattle.spl_words.specs.Results.{Gives};
 ghost use Rattle.client_rounds.specs.declared.faults.AskFault.TheVariants as ask;
-ghost use Rattle.client_rounds.specs.Finishing.{IsJudged, answered, combine_fault, final_fault, finished, or_ask, result_of};
+ghost use Rattle.client_rounds.specs.Finishing.{IsJudged, text_of_answers, combine_fault, final_fault, finished, or_ask, result_of};
 
 use crate::faults::{AskFault, Source};
 use crate::judging::{Judged, judge_answer, judge_note};
@@ -98,10 +98,10 @@ pub fn result_text(
 }
 
 /// The same of the bytes of two answers.
-#[tactic(auto, unfolding(crate::specs::Finishing::answered))]
+#[tactic(auto, unfolding(crate::specs::Finishing::text_of_answers))]
 fn answers_text(alloc: Global, judged: &Judged, a: &[u8], b: &[u8]) -> Result<Bytes, AskFault>
     requires { IsJudged judged.now }
-    ensures gives { Gives ask.OutOfMemory (λ text. text) result (answered judged.now a.now b.now) }
+    ensures gives { Gives ask.OutOfMemory (λ text. text) result (text_of_answers judged.now a.now b.now) }
     ensures no_draw { IsErrOf result ask.DrawFault → ⊥ }
 {
     let first = judge_answer(alloc, a, Source::First)?;

@@ -23,7 +23,7 @@ use Rattle.sum_bounds.specs.Bounds.{sums_bounded}
 use Rattle.sum_bounds.specs.declared.SumFault.{SumFault}
 use Rattle.provider_core.specs.declared.fault.ProviderFault.{ProviderFault}
 use Rattle.provider_core.specs.declared.fault.ProviderFault.TheVariants as fault
-use Rattle.provider_core.specs.declared.asked.Asked.{Asked}
+use Rattle.provider_core.specs.declared.asked.Request.{Request}
 use Rattle.provider_core.specs.Layouts.{layout_differs}
 use Rattle.provider_core.specs.Lines.{first_line}
 
@@ -86,14 +86,14 @@ query_in table frame = do
   Ok checked
 
 -- what bytes ask of a provider over its table, or the first refusal
-unfoldable pub asked_in : Provider → List ℕ → TableParts → Result Asked ProviderFault
+unfoldable pub asked_in : Provider → List ℕ → TableParts → Result Request ProviderFault
 asked_in provider bytes table = do
   frame ← frame_in provider bytes table
   checked ← query_in table frame
   Ok (record { frame = frame; checked = checked })
 
 -- what is known of a frame that a provider answers, and of its query
-pub record IsAsked (bytes : List ℕ) (table : TableParts) (a : Asked) : Type 0 where
+pub record IsRequest (bytes : List ℕ) (table : TableParts) (a : Request) : Type 0 where
   pub frame : KeyFrameOf bytes a.frame
   pub checked : IsCheckedFor a.checked table.shape.schema
   pub placed : keys_placed table a.frame a.checked ≡ Ok tt

@@ -7,11 +7,11 @@ ghost use Rattle.key_frames.specs.Keys.{depth};
 ghost use Rattle.session_model.specs.Answers.{answer_bytes};
 ghost use Rattle.key_frames.specs.Trees.{key_shares};
 ghost use Rattle.provider_core.specs.Answering.{answered};
-ghost use Rattle.provider_core.specs.Asking.{IsAsked};
+ghost use Rattle.provider_core.specs.Asking.{IsRequest};
 ghost use Rattle.provider_core.specs.Faults.{OwnsMemory};
 ghost use Rattle.provider_core.specs.declared.fault.ProviderFault.TheVariants.{OutOfMemory};
 
-use crate::asked::{Asked, judge};
+use crate::asked::{Request, judge};
 use crate::fault::ProviderFault;
 use crate::words::{Folding, add_keys};
 use answer_frames::{AnswerFrame, fill_answer};
@@ -72,12 +72,12 @@ fn reply<T: Threads + Sync, E: Expander + Sync, G: Gate + Sync>(
     expander: &E,
     provider: Provider,
     bytes: &[u8],
-    asked: &Asked,
+    asked: &Request,
     table: &Table,
     workers: usize,
     gate: &G,
 ) -> Result<Vec<u8>, AllocError>
-    requires asked { IsAsked bytes.now table.now asked.now }
+    requires asked { IsRequest bytes.now table.now asked.now }
     requires workers { (1 ≤ workers) × (workers ≤ 64) }
     ensures { IfOk result (λ v. v.items ≡ answer_bytes (E.meaning expander.now) provider bytes.now asked.now.frame asked.now.checked table.now) }
 {

@@ -9,7 +9,7 @@ ghost use Rattle.key_frames.specs.Texts.{is_bad};
 ghost use Rattle.judged_queries.specs.Queries.{checked_in};
 ghost use Rattle.query_reader.specs.Accepted.{IsCheckedFor};
 ghost use Rattle.sum_bounds.specs.Bounds.{sums_bounded};
-ghost use Rattle.provider_core.specs.Asking.{asked_in, frame_in, if_own, keys_placed, or_no_frame, or_query_fault, or_sum_fault, query_in, IsAsked};
+ghost use Rattle.provider_core.specs.Asking.{asked_in, frame_in, if_own, keys_placed, or_no_frame, or_query_fault, or_sum_fault, query_in, IsRequest};
 ghost use Rattle.provider_core.specs.Faults.{OwnsMemory};
 ghost use Rattle.provider_core.specs.declared.fault.ProviderFault.TheVariants.{OutOfMemory};
 
@@ -28,7 +28,7 @@ use sum_bounds::check_sums;
 
 /// A frame that nothing refuses, and its query.
 #[derive(Debug, Drop)]
-pub struct Asked {
+pub struct Request {
     pub frame: KeyFrame,
     pub checked: Checked,
 }
@@ -143,12 +143,12 @@ pub fn judge(
     provider: Provider,
     bytes: &[u8],
     table: &Table,
-) -> Result<Asked, ProviderFault>
+) -> Result<Request, ProviderFault>
     ensures gives { Gives OutOfMemory (λ asked. asked) result (asked_in provider bytes.now table.now) }
-    ensures asked { IfOk result (IsAsked bytes.now table.now) }
+    ensures asked { IfOk result (IsRequest bytes.now table.now) }
     ensures memory { IfErr result OwnsMemory }
 {
     let frame = own_frame(alloc, provider, bytes, table)?;
     let checked = own_query(alloc, table, &frame)?;
-    Ok(Asked { frame, checked })
+    Ok(Request { frame, checked })
 }

@@ -68,7 +68,7 @@ Finds (Ok x) fault = fault ≡ None
 Finds (Err e) fault = fault ≡ Some e
 
 -- The same of a test that takes memory, unless memory ran out.
-abbrev pub Judges : Result (Unit {0}) QueryFault → Option QueryFault → Type 0
-Judges (Ok x) fault = fault ≡ None
-Judges (Err OutOfMemory) fault = Unit {0}
-Judges (Err e) fault = fault ≡ Some e
+abbrev pub TellsFault : Result (Unit {0}) QueryFault → Option QueryFault → Type 0
+TellsFault (Ok x) fault = fault ≡ None
+TellsFault (Err OutOfMemory) fault = Unit {0}
+TellsFault (Err e) fault = fault ≡ Some e

@@ -3,7 +3,7 @@ ghost use Rattle.std.specs.Prelude.{◌≡◌, map, IfOk};
 ghost use Rattle.query_grammar.specs.declared.condition.Atom.{Atom as TheAtom};
 ghost use Rattle.query_reader.specs.Columns.{place_of};
 ghost use Rattle.query_reader.specs.Refusals.{refusal, atom_name as name_of_atom};
-ghost use Rattle.query_reader.specs.Accepted.{Checks, IsCheckedFor, Judges, known_of, checked_of, bound_of as bound_in};
+ghost use Rattle.query_reader.specs.Accepted.{Checks, IsCheckedFor, TellsFault, known_of, checked_of, bound_of as bound_in};
 
 use crate::checked::{Bounds, Checked};
 use crate::columns::{literal_code, place};
@@ -56,7 +56,7 @@ fn places(alloc: Global, schema: &Schema, atoms: &[Atom]) -> Result<Places, Allo
 /// None of the refusals holds.
 #[tactic(auto, unfolding(crate::specs::Refusals::refusal))]
 fn check(alloc: Global, query: &Query, schema: &Schema) -> Result<(), QueryFault>
-    ensures { Judges result (refusal query.now schema.now) }
+    ensures { TellsFault result (refusal query.now schema.now) }
 {
     check_names(alloc, query, schema)?;
     check_form(query, schema)?;

@@ -3,7 +3,7 @@ ghost use Rattle.std.specs.Prelude.{◌≡◌, ◌<◌, length, position, find, 
 ghost use Rattle.spl_values.specs.Kinds.{is_kind};
 ghost use Rattle.query_reader.specs.Refusals.{no_table, no_column, wrong_type, name_refusal, is_wrong as wrong_test, is_wrong_in};
 ghost use Rattle.query_reader.specs.Columns.{column_of, kind_of};
-ghost use Rattle.query_reader.specs.Accepted.{Finds, Judges};
+ghost use Rattle.query_reader.specs.Accepted.{Finds, TellsFault};
 
 use crate::columns::{column, literal_value};
 use crate::uses::{Role, Use, uses};
@@ -23,7 +23,7 @@ fn check_table(query: &Query, schema: &Schema) -> Result<(), QueryFault>
 
 /// Every name is a column.
 fn check_columns(uses: &[Use], schema: &Schema) -> Result<(), QueryFault>
-    ensures { Judges result (no_column uses.now schema.now) }
+    ensures { TellsFault result (no_column uses.now schema.now) }
 {
     for found in uses {
         if column(schema, &found.name).is_none() {
@@ -65,7 +65,7 @@ fn is_wrong_use(schema: &Schema, found: &Use) -> bool
 
 /// Every column can stand where its name does.
 fn check_types(uses: &[Use], schema: &Schema) -> Result<(), QueryFault>
-    ensures { Judges result (wrong_type uses.now schema.now) }
+    ensures { TellsFault result (wrong_type uses.now schema.now) }
 {
     for found in uses {
         if is_wrong_use(schema, found) {
@@ -78,7 +78,7 @@ fn check_types(uses: &[Use], schema: &Schema) -> Result<(), QueryFault>
 /// The table is the schema's, and every name is that of a column which can stand there.
 #[tactic(auto, unfolding(crate::specs::Refusals::name_refusal))]
 pub(crate) fn check_names(alloc: Global, query: &Query, schema: &Schema) -> Result<(), QueryFault>
-    ensures { Judges result (name_refusal query.now schema.now) }
+    ensures { TellsFault result (name_refusal query.now schema.now) }
 {
     check_table(query, schema)?;
     let uses = uses(alloc, query)?;

@@ -3,7 +3,7 @@ ghost use Rattle.std.specs.Prelude.{◌≡◌, ◌^◌, ◌-◌, min, map, lengt
 ghost use Rattle.query_reader.specs.Columns.{place_of};
 ghost use Rattle.query_reader.specs.Refusals.{cell_item as item_of_cell, spec_of, group_labels as labels_of_group, cells_too_wide, too_long, size_refusal};
 ghost use Rattle.query_tokens.specs.Printing.{canonical_text};
-ghost use Rattle.query_reader.specs.Accepted.{Finds, Judges};
+ghost use Rattle.query_reader.specs.Accepted.{Finds, TellsFault};
 
 use crate::columns::{label_count, place};
 use cell_merge::{CellItem, CellItems, CellSpec, width};
@@ -87,7 +87,7 @@ fn check_cells(spec: &CellSpec) -> Result<(), QueryFault>
 }
 
 fn check_length(alloc: Global, query: &Query) -> Result<(), QueryFault>
-    ensures { Judges result (too_long (canonical_text query.now)) }
+    ensures { TellsFault result (too_long (canonical_text query.now)) }
 {
     let text = print_query(alloc, query)?;
     let bytes = text.as_slice().len();
@@ -101,7 +101,7 @@ fn check_length(alloc: Global, query: &Query) -> Result<(), QueryFault>
 /// A cell isn't too wide, and the canonical text isn't too long.
 #[tactic(auto, unfolding(crate::specs::Refusals::size_refusal))]
 pub(crate) fn check_sizes(alloc: Global, query: &Query, schema: &Schema) -> Result<(), QueryFault>
-    ensures { Judges result (size_refusal query.now schema.now) }
+    ensures { TellsFault result (size_refusal query.now schema.now) }
 {
     let spec = cell_spec(alloc, query, schema)?;
     check_cells(&spec)?;

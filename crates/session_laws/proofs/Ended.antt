@@ -20,7 +20,7 @@ use Rattle.client_rounds.specs.Finishing.{finished}
 use Rattle.client_rounds.proofs.Ends.{answer_spelled, ends, ends_exchanged}
 use Rattle.provider_core.specs.declared.fault.ProviderFault.{ProviderFault}
 use Rattle.provider_core.specs.Answering.{answered}
-use Rattle.session_laws.specs.Sessions.{Session, IsSession, IsSpelled, IsAnswer, own_key, own_note, own_text}
+use Rattle.session_laws.specs.OwnSessions.{Session, IsSession, IsSpelled, IsAnswer, own_key, own_note, own_text}
 use Rattle.session_laws.proofs.Answered.{own_answered}
 
 -- what was answered is one answer

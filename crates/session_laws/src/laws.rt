@@ -17,7 +17,7 @@ ghost use Rattle.client_rounds.specs.Expanding.{GivesSeeds};
 ghost use Rattle.client_rounds.specs.Finishing.{finished};
 ghost use Rattle.provider_core.specs.Answering.{answered};
 ghost use Rattle.sum_bounds.specs.Bounds.{sums_bounded};
-ghost use Rattle.session_laws.specs.Sessions.{Session, IsSession, IsSpelled, IsAnswer, own_note, own_text};
+ghost use Rattle.session_laws.specs.OwnSessions.{Session, IsSession, IsSpelled, IsAnswer, own_note, own_text};
 
 use client_rounds::laws::{params_are_few, round_is_spelled};
 use judged_queries::laws::canonical_text_is_accepted;

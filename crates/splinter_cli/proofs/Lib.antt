@@ -4,4 +4,4 @@ mod Files
 mod Lines
 mod Promised
 mod Refused
-mod Sessions
+mod SessionRuns

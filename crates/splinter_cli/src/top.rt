@@ -7,10 +7,10 @@ ghost use Rattle.spl_values.specs.declared.shape_reader.ShapeFault.TheVariants a
 ghost use Rattle.query_parser.specs.declared.fault.QueryFault.TheVariants as query;
 ghost use Rattle.query_reader.specs.declared.params.ParamFault.TheVariants as param;
 ghost use Rattle.csv_tables.specs.declared.fault.TableFault.TheVariants as table;
-ghost use Rattle.session_laws.specs.Sessions.{Session, IsSession, own_text};
+ghost use Rattle.session_laws.specs.OwnSessions.{Session, IsSession, own_text};
 ghost use Rattle.command_words.specs.Orders.{CombineOrder, combine};
 ghost use Rattle.splinter_commands.specs.Commands.{DrawsNone, IsSilent, judged};
-ghost use Rattle.splinter_commands.specs.Sessions.{HoldsSession};
+ghost use Rattle.splinter_commands.specs.HeldSessions.{HoldsSession};
 ghost use Rattle.splinter_cli.specs.Runs.{EndsWith, Promises, Ran, order_of};
 ghost use Rattle.splinter_status.specs.Ends.{ComesExactlyWhere, CountsAs, EndsAs, Reports};
 ghost use Rattle.splinter_status.specs.Texts.{HasLine, line_of};

@@ -14,17 +14,17 @@ use Rattle.spl_words.specs.Cursor.{Spot}
 use Rattle.key_frames.specs.NoteReading.{note_fields_at}
 use Rattle.answer_frames.specs.declared.answer.AnswerFrame.{AnswerFrame}
 use Rattle.answer_frames.specs.Reading.{fields_at}
-use Rattle.session_laws.specs.Sessions.{Session, IsAnswer, own_note, own_text}
+use Rattle.session_laws.specs.OwnSessions.{Session, IsAnswer, own_note, own_text}
 use Rattle.client_rounds.specs.declared.faults.AskFault.{AskFault}
 use Rattle.client_rounds.specs.declared.faults.Source.{Source}
 use Rattle.client_rounds.specs.declared.faults.Source.TheVariants as source
 use Rattle.client_rounds.specs.declared.judging.Judged.{Judged}
-use Rattle.client_rounds.specs.Finishing.{or_ask, frame_fault, note_in, answer_in, answered, finished}
+use Rattle.client_rounds.specs.Finishing.{or_ask, frame_fault, note_in, answer_in, text_of_answers, finished}
 use Rattle.command_words.specs.Orders.{CombineOrder}
 use Rattle.splinter_steps.specs.Reads.{file_of}
 use Rattle.splinter_commands.specs.Commands.{answer_of, combine_ready, combined, noted_in}
 use Rattle.splinter_commands.specs.Refusals.{name_of}
-use Rattle.splinter_commands.specs.Sessions.{HoldsAnswer, HoldsSession}
+use Rattle.splinter_commands.specs.HeldSessions.{HoldsAnswer, HoldsSession}
 
 -- ---- steps that come
 
@@ -77,7 +77,7 @@ answer_is o s m bytes a held is = rw (file_is m (name_of o s) bytes held (answer
 -- files that hold a note and two answers come to what these come to
 combine_is : (o : CombineOrder) (m : FileMap) (note a b text : List ℕ) → get m o.note ≡ Some note → get m o.first ≡ Some a → get m o.second ≡ Some b → finished note a b ≡ Ok text
     → combine_ready o m ≡ Ok (combined text)
-unfolding combine_ready finished answered
+unfolding combine_ready finished text_of_answers
 combine_is o m note a b text noted one two is =
     let judged = step_came (note_in note) _ text is in
     let first = step_came (answer_in source.First a) _ text judged.1.1 in

@@ -6,36 +6,36 @@ use Rattle.spl_outside.specs.Content.{FileMap}
 use Rattle.splinter_status.specs.declared.stops.Stopped.{Stopped}
 use Rattle.splinter_steps.specs.Writes.{put_all, Puts}
 use Rattle.splinter_commands.specs.Effects.{outputs}
-use Rattle.splinter_commands.specs.Commands.{answered, combined}
+use Rattle.splinter_commands.specs.Commands.{answer_effect, combined}
 use Rattle.splinter_commands.proofs.Late.{Came, Wrote, any_words}
 
 -- ---- answer
 
 module _ (name bytes : List ℕ) where
-  pub answered_taken : (words : Option (List ℕ)) → IfSome words (λ ws. words ≡ Some (drop (answered name bytes).draws ws))
-  unfolding answered
+  pub answered_taken : (words : Option (List ℕ)) → IfSome words (λ ws. words ≡ Some (drop (answer_effect name bytes).draws ws))
+  unfolding answer_effect
   answered_taken None = tt
   answered_taken (Some ws) = refl
 
-  puts_in : (ws : List ℕ) (m : FileMap) (mid held : Option FileMap) (r : Result (Unit {0}) Stopped) → mid ≡ Some m → IfSome mid (λ n. Puts ((name, bytes) ∷ []) n held r) → Puts (outputs (answered name bytes) ws) m held r
-  unfolding answered
+  puts_in : (ws : List ℕ) (m : FileMap) (mid held : Option FileMap) (r : Result (Unit {0}) Stopped) → mid ≡ Some m → IfSome mid (λ n. Puts ((name, bytes) ∷ []) n held r) → Puts (outputs (answer_effect name bytes) ws) m held r
+  unfolding answer_effect
   puts_in ws m mid held r same puts = subst (λ k. IfSome k (λ n. Puts ((name, bytes) ∷ []) n held r)) same puts
 
   -- what was written of the answer
   pub answer_wrote : (given : List ℕ) (files mid held : Option FileMap) (words : Option (List ℕ)) (r : Result (Unit {0}) Stopped) → given ≡ bytes → mid ≡ files → IfSome mid (λ n. Puts ((name, given) ∷ []) n held r)
-      → Wrote files held words (answered name bytes) r
+      → Wrote files held words (answer_effect name bytes) r
   answer_wrote given None mid held words r is same puts = tt
   answer_wrote given (Some m) mid held words r is same puts =
       let some = any_words words in
       (some.0, (some.1, puts_in some.0 m mid held r same (subst (λ (b : List ℕ). IfSome mid (λ n. Puts ((name, b) ∷ []) n held r)) is puts)))
 
-  prints_none : (ws : List ℕ) → [] ≡ (answered name bytes).prints ws
-  unfolding answered
+  prints_none : (ws : List ℕ) → [] ≡ (answer_effect name bytes).prints ws
+  unfolding answer_effect
   prints_none ws = refl
 
   -- it was written, and nothing is told
   pub answered_came : (given : List ℕ) (files mid held : Option FileMap) (words : Option (List ℕ)) (text : Vec ℕ) → given ≡ bytes → mid ≡ files → text.items ≡ []
-      → IfSome mid (λ n. held ≡ Some (put_all ((name, given) ∷ []) n)) → Came files held words (answered name bytes) (Ok text)
+      → IfSome mid (λ n. held ≡ Some (put_all ((name, given) ∷ []) n)) → Came files held words (answer_effect name bytes) (Ok text)
   answered_came given None mid held words text is same none puts = tt
   answered_came given (Some m) mid held words text is same none puts =
       let some = any_words words in

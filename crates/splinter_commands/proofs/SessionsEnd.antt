@@ -13,10 +13,10 @@ use Rattle.provider_core.specs.Answering.{answered}
 use Rattle.client_rounds.specs.Rounds.{IsRoundOf}
 use Rattle.client_rounds.specs.Finishing.{finished}
 use Rattle.client_rounds.specs.declared.starting.RoundOut.{RoundOut}
-use Rattle.session_laws.specs.Sessions.{IsSpelled, own_key, own_note}
+use Rattle.session_laws.specs.OwnSessions.{IsSpelled, own_key, own_note}
 use Rattle.splinter_commands.specs.declared.trace.Traced.{Traced}
 use Rattle.splinter_commands.specs.Commands.{round_text, trace_text}
-use Rattle.splinter_commands.specs.Sessions.{session_of}
+use Rattle.splinter_commands.specs.HeldSessions.{session_of}
 
 module _ (t : Traced) (words : List ℕ) where
   -- a provider's answer, as bytes

@@ -9,7 +9,7 @@ use Rattle.command_words.specs.Orders.{Order, AnswerOrder, CombineOrder, trace, 
 use Rattle.splinter_status.specs.declared.stops.Refusal.{Refusal}
 use Rattle.splinter_steps.specs.Reads.{file_of, shape_in, table_in}
 use Rattle.splinter_commands.specs.Effects.{Effect}
-use Rattle.splinter_commands.specs.Commands.{answer_of, answer_ready, answered, combine_ready, combined, conduct_of, noted_in}
+use Rattle.splinter_commands.specs.Commands.{answer_of, answer_ready, answer_effect, combine_ready, combined, conduct_of, noted_in}
 use Rattle.splinter_commands.specs.Refusals.{or_ask_refusal, or_provider_refusal}
 use Rattle.splinter_commands.proofs.ByFiles.{step_came}
 
@@ -17,14 +17,14 @@ use Rattle.splinter_commands.proofs.ByFiles.{step_came}
 same_value : (r : Result Effect Refusal) (x y : Effect) → r ≡ Ok x → r ≡ Ok y → x ≡ y
 same_value r x y first second = let both : Ok x ≡ Ok y = sym first ∙ second in cc
 
-answer_is : (o : AnswerOrder) (m : FileMap) (x : Effect) → answer_ready o m ≡ Ok x → (bytes : List ℕ) × (answered o.out bytes ≡ x)
+answer_is : (o : AnswerOrder) (m : FileMap) (x : Effect) → answer_ready o m ≡ Ok x → (bytes : List ℕ) × (answer_effect o.out bytes ≡ x)
 unfolding answer_ready
 answer_is o m x is =
     let shape = step_came (shape_in m o.shape) _ x is in
     let table = step_came (table_in m o.table shape.0) _ x shape.1.1 in
     let key = step_came (file_of m o.key) _ x table.1.1 in
     let bytes = step_came (or_provider_refusal o.provider o.key shape.0 (answered_over chacha o.provider key.0 table.0)) _ x key.1.1 in
-    (bytes.0, same_value (Ok (answered o.out bytes.0)) (answered o.out bytes.0) x refl bytes.1.1)
+    (bytes.0, same_value (Ok (answer_effect o.out bytes.0)) (answer_effect o.out bytes.0) x refl bytes.1.1)
 
 combine_is : (o : CombineOrder) (m : FileMap) (x : Effect) → combine_ready o m ≡ Ok x → (text : List ℕ) × (combined text ≡ x)
 unfolding combine_ready
@@ -35,12 +35,12 @@ combine_is o m x is =
     let text = step_came (or_ask_refusal o (result_of judged.0 first.0 second.0)) _ x second.1.1 in
     (text.0, same_value (Ok (combined text.0)) (combined text.0) x refl text.1.1)
 
-answered_draws : (name bytes : List ℕ) → (answered name bytes).draws ≡ 0
-unfolding answered
+answered_draws : (name bytes : List ℕ) → (answer_effect name bytes).draws ≡ 0
+unfolding answer_effect
 answered_draws name bytes = refl
 
-answered_prints : (name bytes ws : List ℕ) → (answered name bytes).prints ws ≡ []
-unfolding answered
+answered_prints : (name bytes ws : List ℕ) → (answer_effect name bytes).prints ws ≡ []
+unfolding answer_effect
 answered_prints name bytes ws = refl
 
 combined_draws : (text : List ℕ) → (combined text).draws ≡ 0

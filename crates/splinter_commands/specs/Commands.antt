@@ -73,8 +73,8 @@ abbrev pub round_files : KeysOrder → RoundOut → List (List ℕ × List ℕ)
 round_files o round = (o.note, round.note) ∷ (o.key_zero, round.left) ∷ (o.key_one, round.right) ∷ []
 
 -- `answer` writes the answer
-unfoldable pub answered : List ℕ → List ℕ → Effect
-answered name bytes = record { draws = 0; files = (name, λ words. bytes) ∷ []; prints = λ words. [] }
+unfoldable pub answer_effect : List ℕ → List ℕ → Effect
+answer_effect name bytes = record { draws = 0; files = (name, λ words. bytes) ∷ []; prints = λ words. [] }
 
 -- `combine` prints the result
 unfoldable pub combined : List ℕ → Effect
@@ -105,7 +105,7 @@ answer_ready o files = do
   table ← table_in files o.table shape
   key ← file_of files o.key
   bytes ← or_provider_refusal o.provider o.key shape (answered_over chacha o.provider key table)
-  Ok (answered o.out bytes)
+  Ok (answer_effect o.out bytes)
 
 -- what the note of a file says
 unfoldable pub noted_in : CombineOrder → FileMap → Result Judged Refusal

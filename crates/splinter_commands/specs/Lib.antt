@@ -3,4 +3,4 @@ pub mod Refusals
 pub mod Questions
 pub mod Commands
 pub mod Meets
-pub mod Sessions
+pub mod HeldSessions

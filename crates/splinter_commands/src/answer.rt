@@ -6,7 +6,7 @@ ghost use Rattle.provider_core.specs.Answering.{answered as answered_over};
 ghost use Rattle.command_words.specs.Views.{answer_order, IsWorkers};
 ghost use Rattle.splinter_status.specs.Phases.{InputGives, StopsAtFiles, EndsAtFiles};
 ghost use Rattle.splinter_status.specs.declared.stops.Stopped.TheVariants as stopped;
-ghost use Rattle.splinter_commands.specs.Commands.{answer_ready, answered};
+ghost use Rattle.splinter_commands.specs.Commands.{answer_ready, answer_effect};
 ghost use Rattle.splinter_commands.specs.Meets.{FilesFailed, Meets};
 ghost use Rattle.splinter_commands.specs.Refusals.{or_provider_refusal};
 
@@ -61,7 +61,7 @@ fn answer_files<T: Threads + Sync, F: Files, G: Gate + Sync>(
     gate: &G,
 ) -> Result<Vec<u8>, InputStop>
     requires { IsWorkers words.now.workers }
-    ensures gives { IfSome (F.held files.old) (λ m. InputGives (λ v. answered words.now.out.now v.items) result (answer_ready (answer_order words.now) m)) }
+    ensures gives { IfSome (F.held files.old) (λ m. InputGives (λ v. answer_effect words.now.out.now v.items) result (answer_ready (answer_order words.now) m)) }
     ensures refusals { IfErr result StopsAtFiles }
     ensures stays { F.held files.new ≡ F.held files.old }
     ensures counts { Counts (F.faults files.old) (F.faults files.new) (IsErrOf result InputStop.FileFault) }

@@ -2,11 +2,11 @@
 ghost use Rattle.std.specs.Prelude.{◌≡◌, ◌<◌, ◌^◌, ℕ, false, List, [], Ok};
 ghost use Rattle.std.specs.List.{AllByRecursion};
 ghost use Rattle.spl_outside.specs.Content.{FileMap};
-ghost use Rattle.session_laws.specs.Sessions.{Session, IsSession, own_text};
+ghost use Rattle.session_laws.specs.OwnSessions.{Session, IsSession, own_text};
 ghost use Rattle.command_words.specs.Orders.{CombineOrder, Order};
 ghost use Rattle.splinter_commands.specs.Commands.{combine_ready, combined, conduct_of};
 ghost use Rattle.splinter_commands.specs.Effects.{Effect};
-ghost use Rattle.splinter_commands.specs.Sessions.{HoldsSession};
+ghost use Rattle.splinter_commands.specs.HeldSessions.{HoldsSession};
 
 use client_rounds::laws::expanders_give_seeds;
 use seed_expansion::laws::chacha_is_pure;

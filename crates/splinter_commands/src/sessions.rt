@@ -13,7 +13,7 @@ ghost use Rattle.client_rounds.specs.Rounds.{IsRound, IsRoundOf};
 ghost use Rattle.command_words.specs.Views.{IsWorkers};
 ghost use Rattle.splinter_commands.specs.Commands.{round_text, spaced, trace_text};
 ghost use Rattle.splinter_commands.specs.Questions.{IsTraced};
-ghost use Rattle.splinter_commands.specs.Sessions.{Comes};
+ghost use Rattle.splinter_commands.specs.HeldSessions.{Comes};
 
 use crate::trace::Traced;
 use answer_frames::read_answer;

@@ -1,6 +1,6 @@
 use Rattle.splinter_cli.proofs.Causes.{draws_count, files_count}
 use Rattle.splinter_cli.proofs.Promised.{nothing, promised, unwritten}
-use Rattle.splinter_cli.proofs.Sessions.{session_ends}
+use Rattle.splinter_cli.proofs.SessionRuns.{session_ends}
 use Rattle.splinter_cli.proofs.top.run.Goals as goal
 
 pub returns-clause-promises : goal.returns-clause-promises

@@ -3,8 +3,8 @@ use Rattle.spl_words.specs.declared.provider.Provider.{Provider}
 use Rattle.spl_words.specs.declared.provider.Provider.TheVariants.{Zero, One}
 use Rattle.seed_expansion.specs.ChaChaExpansion.{chacha}
 use Rattle.client_rounds.specs.Asked.{IsAsked}
-use Rattle.session_laws.specs.Sessions.{IsSession, own_key}
-use Rattle.splinter_commands.specs.Sessions.{session_of}
+use Rattle.session_laws.specs.OwnSessions.{IsSession, own_key}
+use Rattle.splinter_commands.specs.HeldSessions.{session_of}
 use Rattle.splinter_commands.proofs.SessionsEnd.{own_answer, left_is, right_is, note_is, round_spelled, same_answer, same_end}
 use Rattle.splinter_commands.proofs.sessions.round_is_answered.Goals as goal
 

@@ -5,7 +5,7 @@ use Rattle.spl_outside.specs.Content.{FileMap}
 use Rattle.spl_words.specs.declared.provider.Provider.{Provider}
 use Rattle.spl_words.specs.declared.provider.Provider.TheVariants.{Zero, One}
 use Rattle.seed_expansion.specs.ChaChaExpansion.{chacha}
-use Rattle.session_laws.specs.Sessions.{Session, IsAnswer, own_note}
+use Rattle.session_laws.specs.OwnSessions.{Session, IsAnswer, own_note}
 use Rattle.command_words.specs.Orders.{CombineOrder}
 use Rattle.splinter_commands.specs.declared.trace.Traced.{Traced}
 

@@ -3,14 +3,14 @@ use Rattle.std.proofs.Common.{◌≡◌, ℕ, ◌<◌, ◌^◌, List, ◌++◌, 
 use Rattle.std.specs.Prelude.{IfSome, IsOk}
 use Rattle.std.specs.List.{AllByRecursion}
 use Rattle.spl_outside.specs.Content.{FileMap}
-use Rattle.session_laws.specs.Sessions.{Session, IsSession, own_text}
+use Rattle.session_laws.specs.OwnSessions.{Session, IsSession, own_text}
 use Rattle.command_words.specs.Orders.{Order, CombineOrder, combine}
 use Rattle.splinter_status.specs.declared.status.Status.{Status}
 use Rattle.splinter_status.specs.declared.status.Status.TheVariants as status
 use Rattle.splinter_status.specs.declared.stops.Refusal.{Refusal}
 use Rattle.splinter_commands.specs.Effects.{Effect}
 use Rattle.splinter_commands.specs.Commands.{combine_ready, combined, judged}
-use Rattle.splinter_commands.specs.Sessions.{HoldsSession}
+use Rattle.splinter_commands.specs.HeldSessions.{HoldsSession}
 use Rattle.splinter_cli.specs.Worlds.{World}
 use Rattle.splinter_cli.specs.Runs.{EndsWith, IsDoneOrFault, Promises, Tells}
 use Rattle.splinter_cli.proofs.Ends.{if_some, told_as}
