@@ -1,6 +1,6 @@
 //! The cases of a file, as they are written.
 use crate::unread;
-use std::alloc::Global;
+use std::alloc::{AllocError, Global};
 use std::io;
 
 /// A line that begins with a word of the form.
@@ -25,6 +25,18 @@ pub struct Case<'a> {
     pub lines: Vec<Line<'a>>,
 }
 
+/// Adds a line to a case.
+fn push_line<'a>(
+    alloc: Global,
+    lines: &mut Vec<Line<'a>>,
+    word: &'a str,
+    rest: &'a str,
+) -> Result<(), AllocError> {
+    let text = String::new(alloc);
+    lines.push(Line { word, rest, text })?;
+    Ok(())
+}
+
 /// Begins a case, or adds a line to the last one.
 fn add_line<'a>(
     alloc: Global,
@@ -40,35 +52,49 @@ fn add_line<'a>(
             name: rest,
             lines: Vec::new(alloc),
         })?;
-    } else if let Some(case) = cases.last_mut() {
-        let text = String::new(alloc);
-        case.lines.push(Line { word, rest, text })?;
-    } else {
-        return Err(unread());
+        return Ok(());
     }
-    Ok(())
+    match cases.last_mut() {
+        Some(case) => Ok(push_line(alloc, &mut case.lines, word, rest)?),
+        None => Err(unread()),
+    }
+}
+
+/// Adds a line to a text.
+fn push_text(text: &mut String, line: &str) -> Result<(), AllocError> {
+    text.push_str(line.strip_prefix(' ').unwrap_or(line))?;
+    text.push('\n')
 }
 
 /// Adds to the text below the last line.
 fn add_text(cases: &mut Vec<Case>, text: &str) -> io::Result<()> {
-    if let Some(line) = cases.last_mut().and_then(|case| case.lines.last_mut()) {
-        line.text.push_str(text.strip_prefix(' ').unwrap_or(text))?;
-        line.text.push('\n')?;
-        Ok(())
-    } else {
-        Err(unread())
+    match cases.last_mut().and_then(|case| case.lines.last_mut()) {
+        Some(line) => Ok(push_text(&mut line.text, text)?),
+        None => Err(unread()),
     }
 }
 
-/// The cases of a file. Empty lines, and those that begin with `#`, say nothing.
+/// Takes a line of a file. Empty lines, and those that begin with `#`, say nothing.
+fn take_line<'a>(
+    alloc: Global,
+    cases: &mut Vec<Case<'a>>,
+    number: usize,
+    line: &'a str,
+) -> io::Result<()> {
+    if let Some(text) = line.strip_prefix('|') {
+        add_text(cases, text)
+    } else if line.is_empty() || line.starts_with('#') {
+        Ok(())
+    } else {
+        add_line(alloc, cases, number, line)
+    }
+}
+
+/// The cases of a file.
 pub fn cases_of<'a>(alloc: Global, file: &'a str) -> io::Result<Vec<Case<'a>>> {
     let mut cases = Vec::new(alloc);
     for (place, line) in file.lines().enumerate() {
-        if let Some(text) = line.strip_prefix('|') {
-            add_text(&mut cases, text)?;
-        } else if !line.is_empty() && !line.starts_with('#') {
-            add_line(alloc, &mut cases, place.saturating_add(1), line)?;
-        }
+        take_line(alloc, &mut cases, place.saturating_add(1), line)?;
     }
     Ok(cases)
 }

@@ -4,8 +4,7 @@ use share_eval::OpenGate;
 use spl_outside::{Draw, MemoryDraw, MemoryFiles, MemorySink};
 use splinter_cli::run;
 use splinter_status::number_of;
-use std::alloc::Global;
-use std::io;
+use std::alloc::{AllocError, Global};
 use std::thread::Threads;
 
 /// What came of the words.
@@ -20,12 +19,23 @@ pub struct Found {
 }
 
 /// The files of a folder, whose chosen calls fail.
-fn files_of(alloc: Global, folder: &Folder, fails: &Vec<u64>) -> io::Result<MemoryFiles> {
+fn files_of(alloc: Global, folder: &Folder, fails: &Vec<u64>) -> Result<MemoryFiles, AllocError> {
     let mut files = MemoryFiles::new(alloc, fails.clone()?);
     for (name, bytes) in folder {
         files.put(name, bytes)?;
     }
     Ok(files)
+}
+
+/// The random words to come, of which chosen calls fail.
+fn draw_of(setting: &Setting) -> Result<MemoryDraw, AllocError> {
+    let words = setting.drawn.clone()?;
+    Ok(MemoryDraw::new(words, setting.failing.draws.clone()?))
+}
+
+/// The output, whose chosen calls fail.
+fn sink_of(alloc: Global, setting: &Setting) -> Result<MemorySink, AllocError> {
+    Ok(MemorySink::new(alloc, setting.failing.output.clone()?))
 }
 
 /// How many of these words were drawn, where so many further calls give those that were not.
@@ -57,19 +67,35 @@ fn status_of<T: Threads + Sync>(
     }
 }
 
-/// What comes of a case.
-pub fn found_of<T: Threads + Sync>(rt: &T, alloc: Global, setting: &Setting) -> io::Result<Found> {
-    let failing = &setting.failing;
-    let mut files = files_of(alloc, &setting.folder, &failing.files)?;
-    let mut draw = MemoryDraw::new(setting.drawn.clone()?, failing.draws.clone()?);
-    let mut out = MemorySink::new(alloc, failing.output.clone()?);
-    let status = status_of(rt, alloc, &setting.words, &mut files, &mut draw, &mut out);
+/// What comes of a case over these files and these random words.
+fn found_over<T: Threads + Sync>(
+    rt: &T,
+    alloc: Global,
+    setting: &Setting,
+    mut files: MemoryFiles,
+    draw: &mut MemoryDraw,
+) -> Result<Found, AllocError> {
+    let mut out = sink_of(alloc, setting)?;
+    let status = status_of(rt, alloc, &setting.words, &mut files, draw, &mut out);
     let drawn = setting.drawn.len();
-    let calls = drawn.saturating_add(failing.draws.len());
+    let calls = drawn.saturating_add(setting.failing.draws.len());
+    let taken = taken_of(draw, drawn, calls);
+    let printed = Vec::from_slice(alloc, out.bytes())?;
     Ok(Found {
         status,
-        printed: Vec::from_slice(alloc, out.bytes())?,
-        taken: taken_of(&mut draw, drawn, calls),
+        printed,
+        taken,
         files,
     })
+}
+
+/// What comes of a case.
+pub fn found_of<T: Threads + Sync>(
+    rt: &T,
+    alloc: Global,
+    setting: &Setting,
+) -> Result<Found, AllocError> {
+    let mut draw = draw_of(setting)?;
+    let files = files_of(alloc, &setting.folder, &setting.failing.files)?;
+    found_over(rt, alloc, setting, files, &mut draw)
 }

@@ -3,7 +3,7 @@ use crate::case_file::Line;
 use crate::notation::{bytes_of, mark_of, number_of, numbers_of, words_of};
 use crate::unread;
 use frame_fields::digest_of;
-use std::alloc::Global;
+use std::alloc::{AllocError, Global};
 use std::collections::BTreeMap;
 use std::rt::Files;
 use std::{fs, io};
@@ -39,43 +39,59 @@ pub struct Setting {
     pub left: BTreeMap<String, String>,
 }
 
+/// No call that fails.
+fn no_failing(alloc: Global) -> Failing {
+    Failing {
+        files: Vec::new(alloc),
+        draws: Vec::new(alloc),
+        output: Vec::new(alloc),
+    }
+}
+
 impl Setting {
-    /// Over these files, with the words 1 to 10 to come, and with nothing to come of them.
-    pub fn new(alloc: Global, folder: Folder) -> io::Result<Setting> {
-        Ok(Setting {
+    /// Over these files, with these random words to come, and with nothing to come of them.
+    pub fn new(alloc: Global, folder: Folder, drawn: Vec<u64>) -> Setting {
+        Setting {
             folder,
             words: None,
-            drawn: Vec::from_slice(alloc, &[1, 2, 3, 4, 5, 6, 7, 8, 9, 10])?,
-            failing: Failing {
-                files: Vec::new(alloc),
-                draws: Vec::new(alloc),
-                output: Vec::new(alloc),
-            },
+            drawn,
+            failing: no_failing(alloc),
             status: 0,
             printed: String::new(alloc),
             takes: 0,
             left: BTreeMap::new(alloc),
-        })
+        }
     }
 
     /// Takes what a line says.
     pub fn add<R: Files + Alloc<A = Global>>(&mut self, rt: &R, line: &Line) -> io::Result<()> {
         let alloc = rt.alloc();
         match line.word {
-            "run" => self.words = Some(words_of(alloc, line.rest)?),
-            "drawn" => self.drawn = numbers_of(alloc, line.rest)?,
-            "fail" => return self.add_failing(alloc, line.rest),
-            "status" => return self.add_status(line),
-            "takes" => self.takes = number_of(line.rest)?,
-            "left" => return self.add_left(alloc, line),
-            "remove" => return self.remove(line.rest),
-            _ => return self.add_file(rt, line),
+            "run" => self.set_words(alloc, line.rest),
+            "drawn" => self.set_drawn(alloc, line.rest),
+            "fail" => self.set_failing(alloc, line.rest),
+            "status" => self.set_status(line),
+            "takes" => self.set_takes(line.rest),
+            "left" => self.add_left(alloc, line),
+            "remove" => self.remove(line.rest),
+            _ => self.add_file(rt, line),
         }
+    }
+
+    /// Takes the words of the command line.
+    fn set_words(&mut self, alloc: Global, text: &str) -> io::Result<()> {
+        self.words = Some(words_of(alloc, text)?);
+        Ok(())
+    }
+
+    /// Takes the random words to come.
+    fn set_drawn(&mut self, alloc: Global, text: &str) -> io::Result<()> {
+        self.drawn = numbers_of(alloc, text)?;
         Ok(())
     }
 
     /// Takes the numbers of the calls that fail.
-    fn add_failing(&mut self, alloc: Global, text: &str) -> io::Result<()> {
+    fn set_failing(&mut self, alloc: Global, text: &str) -> io::Result<()> {
         let (object, numbers) = text.split_once(' ').unwrap_or((text, ""));
         let numbers = numbers_of(alloc, numbers)?;
         match object {
@@ -88,9 +104,15 @@ impl Setting {
     }
 
     /// Takes the status, and what is printed.
-    fn add_status(&mut self, line: &Line) -> io::Result<()> {
+    fn set_status(&mut self, line: &Line) -> io::Result<()> {
         self.status = number_of(line.rest)?;
         self.printed = line.text.clone()?;
+        Ok(())
+    }
+
+    /// Takes how many words are drawn.
+    fn set_takes(&mut self, text: &str) -> io::Result<()> {
+        self.takes = number_of(text)?;
         Ok(())
     }
 
@@ -98,25 +120,18 @@ impl Setting {
     fn add_left(&mut self, alloc: Global, line: &Line) -> io::Result<()> {
         let (name, rest) = line.rest.split_once(' ').unwrap_or((line.rest, ""));
         let mark = self.mark(alloc, rest, &line.text)?;
-        self.left.insert(String::from_str(alloc, name)?, mark)?;
+        let name = String::from_str(alloc, name)?;
+        self.left.insert(name, mark)?;
         Ok(())
     }
 
     /// What a file has to be.
     fn mark(&self, alloc: Global, said: &str, text: &str) -> io::Result<String> {
         match said.split_once(' ').unwrap_or((said, "")) {
-            ("text", _) => mark_of(alloc, Some(text.as_bytes())),
-            ("bytes", rest) => mark_of(alloc, Some(&bytes_of(alloc, rest)?)),
-            ("copy", rest) => mark_of(alloc, Some(&self.copied(alloc, rest)?)),
+            ("text", _) => Ok(mark_of(alloc, Some(text.as_bytes()))?),
+            ("bytes", rest) => mark_of_read(alloc, bytes_of(alloc, rest)),
+            ("copy", rest) => mark_of_read(alloc, copied(alloc, &self.folder, rest)),
             _ => Ok(String::from_str(alloc, said)?),
-        }
-    }
-
-    /// A copy of the bytes of a file.
-    fn copied(&self, alloc: Global, name: &str) -> io::Result<Vec<u8>> {
-        match self.folder.get(name) {
-            Some(bytes) => Ok(Vec::from_slice(alloc, bytes)?),
-            None => Err(unread()),
         }
     }
 
@@ -128,32 +143,96 @@ impl Setting {
 
     /// Makes a file, or changes it.
     fn add_file<R: Files + Alloc<A = Global>>(&mut self, rt: &R, line: &Line) -> io::Result<()> {
-        let alloc = rt.alloc();
         let (name, rest) = line.rest.split_once(' ').unwrap_or((line.rest, ""));
-        let bytes = match line.word {
-            "text" => Vec::from_slice(alloc, line.text.as_bytes())?,
-            "bytes" => bytes_of(alloc, rest)?,
-            "data" => fs::read(rt, rest)?,
-            "copy" => self.copied(alloc, rest)?,
-            word => bent(alloc, word, rest, self.copied(alloc, name)?)?,
-        };
-        self.folder.insert(String::from_str(alloc, name)?, bytes)?;
+        let bytes = self.made(rt, line, name, rest)?;
+        let name = String::from_str(rt.alloc(), name)?;
+        self.folder.insert(name, bytes)?;
         Ok(())
+    }
+
+    /// The bytes of a file that a line makes.
+    fn made<R: Files + Alloc<A = Global>>(
+        &self,
+        rt: &R,
+        line: &Line,
+        name: &str,
+        rest: &str,
+    ) -> io::Result<Vec<u8>> {
+        let alloc = rt.alloc();
+        match line.word {
+            "text" => Ok(Vec::from_slice(alloc, line.text.as_bytes())?),
+            "bytes" => bytes_of(alloc, rest),
+            "data" => fs::read(rt, rest),
+            "copy" => copied(alloc, &self.folder, rest),
+            word => bent(alloc, word, rest, copied(alloc, &self.folder, name)),
+        }
     }
 }
 
-/// Bytes after a change.
-fn bent(alloc: Global, word: &str, rest: &str, mut bytes: Vec<u8>) -> io::Result<Vec<u8>> {
-    match word {
-        "add" => bytes.extend_from_slice(&bytes_of(alloc, rest)?)?,
-        "cut" => bytes.truncate(bytes.len().saturating_sub(number_of(rest)? as usize)),
-        "grow" => bytes.resize(number_of(rest)? as usize, 0)?,
-        "seal" => bytes.extend_from_slice(&digest_of(&bytes))?,
-        "flip" => match bytes.get_mut(number_of(rest)? as usize) {
-            Some(byte) => *byte ^= 1,
-            None => return Err(unread()),
-        },
-        _ => return Err(unread()),
+/// A copy of the bytes of a file.
+fn copied(alloc: Global, folder: &Folder, name: &str) -> io::Result<Vec<u8>> {
+    match folder.get(name) {
+        Some(bytes) => Ok(Vec::from_slice(alloc, bytes)?),
+        None => Err(unread()),
     }
+}
+
+/// What a file of these bytes is.
+fn mark_of_read(alloc: Global, bytes: io::Result<Vec<u8>>) -> io::Result<String> {
+    let bytes = bytes?;
+    Ok(mark_of(alloc, Some(&bytes))?)
+}
+
+/// Bytes after a change.
+fn bent(alloc: Global, word: &str, rest: &str, bytes: io::Result<Vec<u8>>) -> io::Result<Vec<u8>> {
+    let mut bytes = bytes?;
+    bend(alloc, word, rest, &mut bytes)?;
     Ok(bytes)
+}
+
+/// Changes bytes.
+fn bend(alloc: Global, word: &str, rest: &str, bytes: &mut Vec<u8>) -> io::Result<()> {
+    match word {
+        "add" => add(alloc, rest, bytes),
+        "seal" => Ok(seal(bytes)?),
+        "cut" => cut(number_of(rest), bytes),
+        "grow" => grow(number_of(rest), bytes),
+        "flip" => flip(number_of(rest), bytes),
+        _ => Err(unread()),
+    }
+}
+
+/// Adds bytes at the end.
+fn add(alloc: Global, text: &str, bytes: &mut Vec<u8>) -> io::Result<()> {
+    let more = bytes_of(alloc, text)?;
+    Ok(bytes.extend_from_slice(&more)?)
+}
+
+/// Adds the SHA-256 at the end.
+fn seal(bytes: &mut Vec<u8>) -> Result<(), AllocError> {
+    let digest = digest_of(bytes);
+    bytes.extend_from_slice(&digest)
+}
+
+/// Cuts so many bytes off the end.
+fn cut(count: io::Result<u64>, bytes: &mut Vec<u8>) -> io::Result<()> {
+    let count = count? as usize;
+    bytes.truncate(bytes.len().saturating_sub(count));
+    Ok(())
+}
+
+/// Adds zeros, or cuts bytes off, so that there are so many.
+fn grow(count: io::Result<u64>, bytes: &mut Vec<u8>) -> io::Result<()> {
+    let count = count? as usize;
+    Ok(bytes.resize(count, 0)?)
+}
+
+/// Turns the lowest bit of the byte at a place.
+fn flip(place: io::Result<u64>, bytes: &mut Vec<u8>) -> io::Result<()> {
+    let place = place? as usize;
+    match bytes.get_mut(place) {
+        Some(byte) => *byte ^= 1,
+        None => return Err(unread()),
+    }
+    Ok(())
 }
