@@ -11,14 +11,13 @@ use query_reader::{Checked, QueryFault, check_query, read_query};
 use spl_values::{Schema, Table, read_shape};
 use spl_words::ShareFn;
 use std::alloc::{AllocError, Global};
-use std::test::Fail;
 
 const SHAPE: &[u8] = b"table t\nrows 4\na UINT(4)\nk ENUM(red|green|blue)\nv UINT(8)\n";
 
 /// The table of these rows.
-pub fn table_of(alloc: Global, rows: &[u8]) -> Result<Table, Fail> {
-    let shape = read_shape(alloc, SHAPE)?;
-    Ok(read_table(alloc, rows, &shape)?)
+fn table_of(alloc: Global, rows: &[u8]) -> Option<Table> {
+    let shape = read_shape(alloc, SHAPE).ok()?;
+    read_table(alloc, rows, &shape).ok()
 }
 
 /// A query that is accepted.
@@ -81,8 +80,8 @@ fn has_entries(
     Ok(are_entries(&found, case.keys, case.words))
 }
 
-/// The query of the first case whose entries are others.
-pub fn first_other(
+/// The query of the first case whose entries over a table are others.
+fn first_other_over(
     alloc: Global,
     entries: Entries,
     table: &Table,
@@ -94,6 +93,19 @@ pub fn first_other(
         }
     }
     None
+}
+
+/// The same over the table of these rows, if they are one.
+pub fn first_other(
+    alloc: Global,
+    entries: Entries,
+    rows: &[u8],
+    cases: &[EntryCase],
+) -> Option<&'static str> {
+    match table_of(alloc, rows) {
+        Some(table) => first_other_over(alloc, entries, &table, cases),
+        None => Some("no table"),
+    }
 }
 
 /// The shares at 0 and 1 of a function of one bit.

@@ -1,6 +1,5 @@
 //! Greatest and least values and best rows have an entry for each key.
-use crate::fixtures::{Entries, EntryCase, first_other, table_of};
-use std::test::Fail;
+use crate::fixtures::{Entries, EntryCase, first_other};
 
 const ROWS: &[u8] = b"a,k,v\n1,red,5\n3,blue,7\n2,blue,9\n1,green,1\n";
 
@@ -15,6 +14,12 @@ const CASES: &[EntryCase] = &[
         keys: &[0, 1, 2],
         words: &[1, 5, 1, 1, 1, 9],
     },
+    // a label's code
+    EntryCase {
+        query: "SELECT SUM(v), MAX(k) FROM t WHERE a = ?",
+        keys: &[1, 2, 3],
+        words: &[2, 6, 1, 1, 9, 2, 1, 7, 2],
+    },
     EntryCase {
         query: "SELECT MAX(v) FROM t WHERE v = 2 AND k = ?",
         keys: &[],
@@ -23,10 +28,8 @@ const CASES: &[EntryCase] = &[
 ];
 
 #[test]
-fn an_entry_for_each_key(rt: HostRuntime) -> Result<(), Fail> {
-    let table = table_of(rt.alloc(), ROWS)?;
-    assert_eq!(rt; first_other(rt.alloc(), Entries::Keys, &table, CASES), None);
-    Ok(())
+fn an_entry_for_each_key(rt: HostRuntime) {
+    assert_eq!(rt; first_other(rt.alloc(), Entries::Keys, ROWS, CASES), None);
 }
 
 const TIED_ROWS: &[u8] = b"a,k,v\n1,red,5\n3,red,5\n2,red,9\n1,green,1\n";
@@ -39,8 +42,9 @@ const TIED: &[EntryCase] = &[EntryCase {
 }];
 
 #[test]
-fn of_equal_rows_the_earlier(rt: HostRuntime) -> Result<(), Fail> {
-    let table = table_of(rt.alloc(), TIED_ROWS)?;
-    assert_eq!(rt; first_other(rt.alloc(), Entries::Keys, &table, TIED), None);
-    Ok(())
+fn of_equal_rows_the_earlier(rt: HostRuntime) {
+    assert_eq!(rt;
+        first_other(rt.alloc(), Entries::Keys, TIED_ROWS, TIED),
+        None
+    );
 }

@@ -2,8 +2,6 @@
 #![tactic(auto)]
 
 #[cfg(test)]
-mod cell_rows;
-#[cfg(test)]
 mod expansion;
 #[cfg(test)]
 mod fixtures;

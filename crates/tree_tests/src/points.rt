@@ -97,7 +97,7 @@ fn keeps(alloc: Global, correction: Correction) -> Result<bool, AllocError> {
     let mut list = Corrections::new(alloc);
     list.push(correction)?;
     let again = list.clone()?.as_slice() == [correction].as_slice();
-    Ok(again && Corrections::from_vec(list.into_vec()).len() == 1)
+    Ok(again && list.len() == 1)
 }
 
 #[test]

@@ -1,6 +1,5 @@
 //! Rows stand by rising key, each at its own position.
-use crate::fixtures::{Entries, EntryCase, first_other, table_of};
-use std::test::Fail;
+use crate::fixtures::{Entries, EntryCase, first_other};
 
 const CASES: &[EntryCase] = &[
     // the second row, the last, and then the first and the third, which have one key
@@ -17,15 +16,12 @@ const CASES: &[EntryCase] = &[
     },
 ];
 
+const ROWS: &[u8] = b"a,k,v\n3,red,5\n1,blue,7\n3,blue,9\n2,green,1\n";
+
 #[test]
-fn rows_stand_by_rising_key(rt: HostRuntime) -> Result<(), Fail> {
-    let table = table_of(
-        rt.alloc(),
-        b"a,k,v\n3,red,5\n1,blue,7\n3,blue,9\n2,green,1\n".as_slice(),
-    )?;
+fn rows_stand_by_rising_key(rt: HostRuntime) {
     assert_eq!(rt;
-        first_other(rt.alloc(), Entries::Positions, &table, CASES),
+        first_other(rt.alloc(), Entries::Positions, ROWS, CASES),
         None
     );
-    Ok(())
 }

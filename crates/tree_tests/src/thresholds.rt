@@ -135,7 +135,7 @@ fn keeps(alloc: Global, level: ThresholdLevel) -> Result<bool, AllocError> {
     let mut list = ThresholdLevels::new(alloc);
     list.push(level)?;
     let again = list.clone()?.as_slice() == [level].as_slice();
-    Ok(again && ThresholdLevels::from_vec(list.into_vec()).len() == 1)
+    Ok(again && list.len() == 1)
 }
 
 #[test]
