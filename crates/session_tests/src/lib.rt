@@ -5,6 +5,4 @@
 #[cfg(test)]
 mod answering;
 #[cfg(test)]
-mod combining;
-#[cfg(test)]
 mod rounds;
