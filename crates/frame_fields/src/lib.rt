@@ -11,6 +11,4 @@ pub use reading::{
     version, within, within16, within32,
 };
 pub use typed::{see_bytes, see_number, see_slice, see_words};
-pub use writing::{
-    provider_byte_of, put, put_bytes, put_provider, put8, put16, put64, put128,
-};
+pub use writing::{provider_byte_of, put, put_bytes, put_provider, put8, put16, put64, put128};
