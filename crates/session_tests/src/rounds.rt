@@ -1,4 +1,6 @@
 //! What no command asks of a client yet: the frames of a later round. And the order of the roots that are drawn.
+ghost use Rattle.std.specs.Prelude.{◌≡◌, IfOk};
+
 use client_rounds::{Roots, RoundHead, draw_roots, round_frames};
 use key_frames::{Key, KeyFrame};
 use private_plan::Secrets;
@@ -13,7 +15,9 @@ const SHAPE: &[u8] = b"table t\nrows 3\na UINT(1)\nb UINT(4)\n";
 const EQUAL: &[u8] = b"SELECT COUNT(*) FROM t WHERE a = ?";
 
 /// A second round, whose tree has the last number that one may have.
-fn later_head(alloc: Global) -> Result<RoundHead, ShapeFault> {
+fn later_head(alloc: Global) -> Result<RoundHead, ShapeFault>
+    ensures { IfOk result (λ head. head.first_tree ≡ 4294967295) }
+{
     Ok(RoundHead {
         session: 5,
         round: 2,
@@ -24,7 +28,9 @@ fn later_head(alloc: Global) -> Result<RoundHead, ShapeFault> {
 }
 
 /// The frames of a round of one point tree of one level, with the roots 1 and 2.
-fn frames_of(alloc: Global, head: &RoundHead) -> Result<(KeyFrame, KeyFrame), AllocError> {
+fn frames_of(alloc: Global, head: &RoundHead) -> Result<(KeyFrame, KeyFrame), AllocError>
+    requires { head.now.first_tree ≡ 4294967295 }
+{
     let secret = TreeSecret {
         kind: TreeKind::Point,
         depth: 1,
@@ -47,7 +53,9 @@ fn is_later(frame: &KeyFrame, root: u128) -> bool {
 }
 
 /// Whether the frames of a round are those of the second.
-fn has_later_frames(alloc: Global, head: &RoundHead) -> bool {
+fn has_later_frames(alloc: Global, head: &RoundHead) -> bool
+    requires { head.now.first_tree ≡ 4294967295 }
+{
     match frames_of(alloc, head) {
         Ok((zero, one)) => is_later(&zero, 1) && is_later(&one, 2),
         Err(_) => false,
