@@ -37,6 +37,20 @@ kind_for false true w = if nat_le w 16 then kind.Aligned else kind.Position
 abbrev pub kind_of : Checked → List ColumnParts → PlanKind
 kind_of checked columns = kind_for (list_all is_sum checked.spec.items) checked.range (last_bits columns checked.columns)
 
+-- plans of that kind are answered so far
+abbrev pub is_built : PlanKind → Bool
+is_built kind.Sum = true
+is_built kind.Point = true
+is_built kind.Aligned = true
+is_built kind.Position = false
+
+-- each tree of the first round of such a plan brings a cell
+abbrev pub brings_cells : PlanKind → Bool
+brings_cells kind.Sum = false
+brings_cells kind.Point = true
+brings_cells kind.Aligned = true
+brings_cells kind.Position = false
+
 -- a tree of that kind and depth
 abbrev pub tree : TreeKind → ℕ → KeySpec
 tree k depth = record { kind = k; depth = depth }

@@ -1,5 +1,5 @@
 -- The slots of a query, and the secrets of their trees.
-use Rattle.std.specs.Prelude.{ℕ, zero, suc, ◌-◌, Bool, true, false, nat_lt, List, [], ◌∷◌, Option, None, Some, if◌then◌else◌}
+use Rattle.std.specs.Prelude.{◌≡◌, ℕ, zero, suc, ◌-◌, ◌^◌, ◌<◌, ◌≤◌, Bool, true, false, nat_lt, List, [], ◌∷◌, Option, None, Some, if◌then◌else◌}
 use Rattle.std.specs.List.{flat_map, range_with_len}
 use Rattle.spl_words.specs.declared.secret.TreeKind.TheVariants.{Point}
 use Rattle.spl_words.specs.Secrets.{Secret}
@@ -59,6 +59,14 @@ count_below bits (suc n) = threshold bits n 1
 abbrev pub count_secrets : ℕ → Option Span → List Secret
 count_secrets bits None = threshold bits 0 0 ∷ threshold bits 0 0 ∷ []
 count_secrets bits (Some s) = count_below bits s.lo ∷ threshold bits s.hi 1 ∷ []
+
+-- a point over numbers of n bits without some of their lowest: the word 1 at a number, or an unused tree
+pub record IsPointOf (n : ℕ) (s : Secret) : Type 0 where
+  pub is_point : s.kind ≡ Point
+  pub some : 1 ≤ s.depth
+  pub inside : s.depth ≤ n
+  pub number : s.alpha < 2 ^ s.depth
+  pub once : s.beta ≤ 1
 
 -- ---- the slots of positions
 

@@ -55,3 +55,20 @@ pub fn sum_secrets_tell_matching_rows()
         → (plan_of checked shape).kind ≡ kind.Sum
         → secrets_value (secrets_in checked shape params first_round) (row_key shape.schema.columns checked.columns r) ≡ (if some_branch_holds checked.branches checked.columns checked.range params r then 1 else 0) }
 {}
+
+/// The trees of an accepted query's first round have 1 to as many bits as the joined key, and the first of them has all.
+pub fn trees_begin_with_the_key()
+    ensures first { (checked : Checked) (shape : ShapeParts) → IsSchema shape.schema → IsCheckedFor checked shape.schema → IsQuery checked.query → first_depth (plan_of checked shape).first ≡ checked.bits }
+    ensures inside { (checked : Checked) (shape : ShapeParts) → IsSchema shape.schema → IsCheckedFor checked shape.schema → IsQuery checked.query → AllByRecursion (λ t. (1 ≤ t.depth) × (t.depth ≤ checked.bits)) (plan_of checked shape).first }
+{}
+
+/// Where each tree of the first round brings a cell, its secrets are points, and exactly one of them tells a row for which
+/// some branch holds, by the row's joined key without so many of its lowest bits as the tree is less deep than the key;
+/// of another row none does.
+pub fn points_tell_matching_rows()
+    ensures points { (checked : Checked) (shape : ShapeParts) (params : List ℕ) → IsSchema shape.schema → IsCheckedFor checked shape.schema → IsQuery checked.query → AreParamsFor checked shape.schema params
+        → brings_cells (plan_of checked shape).kind ≡ true → AllByRecursion (IsPointOf checked.bits) (secrets_in checked shape params first_round) }
+    ensures tell { (checked : Checked) (shape : ShapeParts) (params : List ℕ) (r : Row) → IsSchema shape.schema → IsCheckedFor checked shape.schema → IsQuery checked.query → AreParamsFor checked shape.schema params → RowHasBits shape.schema.columns checked.columns r
+        → brings_cells (plan_of checked shape).kind ≡ true
+        → sum_by (λ s. secret_value s (row_key shape.schema.columns checked.columns r / 2 ^ (checked.bits - s.depth))) (secrets_in checked shape params first_round) ≡ (if some_branch_holds checked.branches checked.columns checked.range params r then 1 else 0) }
+{}

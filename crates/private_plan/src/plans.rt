@@ -1,5 +1,6 @@
 //! What a plan says.
 ghost use Rattle.std.specs.Prelude.{◌≡◌};
+ghost use Rattle.private_plan.specs.Plans.{is_built as built};
 
 use spl_words::KeySpec;
 use std::marker::Model;
@@ -15,6 +16,16 @@ pub enum PlanKind {
     Aligned,
     /// Two rounds: positions of the rows first, then cells over positions.
     Position,
+}
+
+/// Whether plans of that kind are answered so far.
+pub fn is_built(kind: PlanKind) -> bool
+    ensures { result ≡ built kind }
+{
+    match kind {
+        PlanKind::Sum | PlanKind::Point | PlanKind::Aligned => true,
+        PlanKind::Position => false,
+    }
 }
 
 /// Trees, in the order of their keys.
