@@ -70,7 +70,7 @@ module _ (n w : ℕ) (some : 1 ≤ n) (inside : w ≤ n) where
   slot_first kind.Sum false wide = refl
   slot_first kind.Sum true wide = refl
   slot_first kind.Point range wide = refl
-  slot_first kind.Aligned range wide = let e : w ≡ suc (w - 1) = omega (arith, wide) in rw e refl
+  slot_first kind.Aligned range wide = let e : w ≡ suc (w - 1) = omega (arith, wide) in rw e (omega arith)
   slot_first kind.Position range wide = refl
 
   slot_some : (k : PlanKind) (range : Bool) → (k ≡ kind.Aligned → 1 ≤ w) → 1 ≤ length (slot_trees k range n w)
