@@ -15,8 +15,7 @@ use Rattle.answer_frames.specs.declared.answer.AnswerFrame.{AnswerFrame}
 use Rattle.answer_frames.specs.Reading.{fields_at}
 use Rattle.answer_frames.specs.Spelling.{Allowed, Typed, AnswerOf, body}
 use Rattle.answer_frames.proofs.Answers.{fields_field, length-spelling}
-use Rattle.private_plan.specs.declared.plans.PlanKind.TheVariants as kind
-use Rattle.private_plan.specs.Plans.{kind_of, plan_of}
+use Rattle.private_plan.specs.Plans.{IsBuilt, plan_of}
 use Rattle.clear_sql.specs.declared.answer.Group.{Group}
 use Rattle.clear_sql.specs.AnswerText.{answer_text}
 use Rattle.clear_sql.specs.CellAnswers.{answer_of}
@@ -41,10 +40,10 @@ pub answer_read : (s : Source) (bytes : List ℕ) (a : AnswerFrame) → AnswerOf
 answer_read s bytes a of = rw (answer_frame_read bytes a of) refl
 
 pub note_judged : (bytes : List ℕ) (n : Note) (checked : Checked) (params : List ℕ) → frame_at note_fields_at bytes ≡ Ok n → checked_in n.shape.schema n.query ≡ Ok checked
-    → kind_of checked n.shape.schema.columns ≡ kind.Sum → codes_in checked.query n.shape.schema n.params ≡ Ok params
+    → IsBuilt checked n.shape.schema.columns → codes_in checked.query n.shape.schema n.params ≡ Ok params
     → note_in bytes ≡ Ok (record { note = n; checked = checked; params = params; plan = plan_of checked n.shape })
 unfolding note_in
-note_judged bytes n checked params read query sums codes = rw (read, query, sums, codes) refl
+note_judged bytes n checked params read query built codes = rw (read, query, built, codes) refl
 
 pub result_is : (j : Judged) (a b : AnswerFrame) (words : List ℕ) (groups : List Group) → combined j.note a b (last_words j.plan) ≡ Ok words → final_of j.checked j.note.shape words ≡ Ok groups
     → result_of j a b ≡ Ok (answer_text j.note.shape.schema.columns j.checked.spec groups)

@@ -5,7 +5,7 @@ use Rattle.sum_bounds.specs.Bounds.{sums_bounded}
 use Rattle.splinter_commands.specs.declared.keys.Question.{Question}
 use Rattle.splinter_commands.specs.declared.trace.Traced.{Traced}
 
--- an accepted query of counts, sums and means for the shape, and its parameters
+-- an accepted query for the shape whose plan is built, and its parameters
 abbrev pub IsQuestion : Question → Type 0
 IsQuestion q = IsAsked q.shape (record { checked = q.checked; params = q.params })
 
