@@ -68,13 +68,13 @@ blocks_add (suc n) is a b s la lb =
     let more = blocks_add n is (drop w a) (drop w b) s (omega (arith, la, split, three)) (omega (arith, lb, split, four)) in
     rw (here, more) (sym (wordwise_parts w a b))
 
-word_at : (a b : List ℕ) (k : ℕ) → k < length a → k < length b → slice_index (wordwise a b) k ≡ plus (slice_index a k) (slice_index b k)
+pub word_at : (a b : List ℕ) (k : ℕ) → k < length a → k < length b → slice_index (wordwise a b) k ≡ plus (slice_index a k) (slice_index b k)
 word_at [] b k h i = absurd (omega (arith, h))
 word_at (x ∷ xs) [] k h i = absurd (omega (arith, i))
 word_at (x ∷ xs) (y ∷ ys) zero h i = refl
 word_at (x ∷ xs) (y ∷ ys) (suc k) h i = word_at xs ys k (omega (arith, h)) (omega (arith, i))
 
-same_lengths : {X : Type 0} (f : X → List ℕ) (k : ℕ) → ((x : X) → length (f x) ≡ k) → (xs : List X) → length (flat_map f xs) ≡ length xs * k
+pub same_lengths : {X : Type 0} (f : X → List ℕ) (k : ℕ) → ((x : X) → length (f x) ≡ k) → (xs : List X) → length (flat_map f xs) ≡ length xs * k
 same_lengths f k each [] = sym (zero-mul k)
 same_lengths f k each (x ∷ xs) =
     let split : (length xs + 1) * k ≡ length xs * k + 1 * k = add-mul (length xs) 1 k in
@@ -92,7 +92,7 @@ length-cell adds spec rows =
     same_lengths (block adds spec.items) (block_width spec.items) (length-block adds spec.items) (groups spec.group spec.labels rows)
     ∙ ap (λ n. n * block_width spec.items) (count_groups spec.group spec.labels rows)
 
-all_right : (b : List Row) → Interleaves [] b b
+pub all_right : (b : List Row) → Interleaves [] b b
 all_right [] = none
 all_right (x ∷ xs) = right x [] xs xs (all_right xs)
 

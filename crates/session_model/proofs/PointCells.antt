@@ -68,12 +68,12 @@ module _ (alpha beta : ℕ) (w : ℕ → ℕ) where
 
 -- ---- cells
 
-no_word : (n k : ℕ) → slice_index (replicate n 0) k ≡ 0
+pub no_word : (n k : ℕ) → slice_index (replicate n 0) k ≡ 0
 no_word zero k = refl
 no_word (suc n) zero = refl
 no_word (suc n) (suc k) = no_word n k
 
-point_is : (s : Secret) → s.kind ≡ Point → secret_value s ≡ point_value s.alpha s.beta
+pub point_is : (s : Secret) → s.kind ≡ Point → secret_value s ≡ point_value s.alpha s.beta
 point_is s is = rw is refl
 
 pub point_told : (adds : Addends) (spec : CellSpec) (number : Row → ℕ) (rows : List Row) (s : Secret) (k : ℕ) → s.kind ≡ Point
