@@ -1,24 +1,16 @@
 -- A session over one table ends with the clear answer.
-use Rattle.std.proofs.Common.{◌≡◌, ℕ, zero, suc, ◌+◌, ◌^◌, ◌<◌, ◌≤◌, Bool, true, false, cond, List, length, drop, None, Some, Result, Ok, refl, sym, ap, ◌∙◌, arith}
-use Rattle.std.specs.Prelude.{slice_index, nat_lt, ◌==◌}
-use Rattle.std.specs.List.{list_all, range_with_len}
-use Rattle.std.proofs.Math.Nat.{mod-eq_of_lt}
+use Rattle.std.proofs.Common.{◌≡◌, ℕ, zero, suc, ◌+◌, ◌^◌, ◌<◌, ◌≤◌, Bool, true, false, cond, List, [], ◌∷◌, length, drop, None, Some, Result, Ok, refl, sym, ap, subst, ◌∙◌, arith}
+use Rattle.std.specs.Prelude.{nat_lt, ◌==◌}
+use Rattle.std.specs.List.{AllByRecursion}
 use Rattle.std.proofs.lemmas.Bool.Decides.{nat_tests}
-use Rattle.std.proofs.lemmas.List.{length-map}
-use Rattle.std.proofs.lemmas.List.FromFn.{length-range_with_len}
 use Rattle.sha2.proofs.Facts256.{length-sha256}
 use Rattle.spl_words.specs.declared.provider.Provider.{Provider}
 use Rattle.spl_words.specs.declared.provider.Provider.TheVariants.{Zero, One}
-use Rattle.spl_words.specs.Words.{plus}
-use Rattle.spl_words.specs.Folds.{fold_word, fold_words}
 use Rattle.spl_values.specs.Shapes.{SchemaParts}
 use Rattle.spl_values.specs.Tables.{TableParts, IsTable}
-use Rattle.cell_merge.specs.Rows.{Apart}
-use Rattle.cell_merge.specs.Cells.{cell, cell_width}
+use Rattle.cell_merge.specs.Rows.{Row}
+use Rattle.cell_merge.specs.Cells.{merge_all}
 use Rattle.cell_merge.specs.TableRows.{adds_in, rows_of}
-use Rattle.cell_merge.proofs.Labels.{Apart-filter}
-use Rattle.cell_merge.proofs.Lists.{length-filter-le}
-use Rattle.cell_merge.proofs.RowCells.{rows_apart}
 use Rattle.seed_expansion.specs.Expanders.{Meaning, IsPure}
 use Rattle.query_grammar.specs.Canonical.{IsQuery}
 use Rattle.query_grammar.specs.Queries.{QueryParts}
@@ -26,41 +18,39 @@ use Rattle.query_tokens.specs.Printing.{IsWellFormed, canonical_text}
 use Rattle.query_reader.specs.declared.checked.Checked.{Checked}
 use Rattle.query_reader.specs.declared.params.ParamFault.{ParamFault}
 use Rattle.query_reader.specs.Accepted.{IsCheckedFor}
-use Rattle.query_reader.specs.Matching.{is_kept, matching_rows, kept_rows, some_branch_holds}
+use Rattle.query_reader.specs.Matching.{matching_rows}
 use Rattle.query_reader.specs.Params.{AreParamsFor, params_of_words, fault_or, marks_of}
 use Rattle.query_reader.proofs.Codes.{answered_known}
-use Rattle.query_reader.proofs.Known.{checked_fits, checked_width}
+use Rattle.query_reader.proofs.Lists.{all_at}
 use Rattle.judged_queries.specs.Queries.{checked_in}
 use Rattle.judged_queries.specs.Codes.{codes_in, codes_from}
 use Rattle.judged_queries.proofs.TakenCodes.{words_are_codes}
 use Rattle.sum_bounds.specs.Bounds.{sums_bounded}
 use Rattle.clear_sql.specs.Clear.{clear}
-use Rattle.clear_sql.proofs.MatchingCells.{matching_clear, length-rows_of}
-use Rattle.count_sum.specs.SumPairs.{sum_pairs}
-use Rattle.private_plan.specs.declared.plans.PlanKind.TheVariants as kind
-use Rattle.private_plan.specs.Plans.{is_sum, kind_for, last_bits, plan_of}
+use Rattle.clear_sql.specs.CellAnswers.{answer_of}
+use Rattle.clear_sql.proofs.MatchingCells.{matching_clear}
+use Rattle.private_plan.specs.Plans.{IsBuilt, kind_of, plan_of}
 use Rattle.private_plan.specs.Rounds.{first_round, secrets_in}
-use Rattle.private_plan.proofs.Accepted.{secrets_laid}
 use Rattle.answer_frames.specs.declared.answer.AnswerFrame.{AnswerFrame}
 use Rattle.answer_frames.specs.Spelling.{AnswerOf}
 use Rattle.key_frames.specs.Notes.{NoteOf}
 use Rattle.session_model.specs.Draws.{wide, roots_of}
-use Rattle.key_frames.specs.Trees.{key_list, key_shares, key_tree}
-use Rattle.key_frames.proofs.TreeLaws.{trees_same}
+use Rattle.key_frames.specs.Trees.{key_list}
 use Rattle.session_model.specs.Answers.{answer_frame}
+use Rattle.session_model.specs.Cells.{ArePicked, cells_back, first_answer, rows_back}
 use Rattle.session_model.specs.Sessions.{session_roots, key_frame, key_bytes, round_answer, note, note_bytes, clear_text}
-use Rattle.session_model.proofs.Answers.{answers_add, one_fold, sum_kind}
-use Rattle.session_model.proofs.CellSums.{length-cell}
+use Rattle.session_model.proofs.CellsBack.{answer_length, answers_small, back_picked, word_added, words_planned}
+use Rattle.session_model.proofs.CellsMerge.{back_merge}
 use Rattle.combiner.specs.Combining.{added, combined}
 use Rattle.combiner.specs.Finals.{last_words, final_of}
+use Rattle.combiner.specs.GoodWords.{AreRowsOf}
 use Rattle.combiner.proofs.Adding.{combined_agreed, combined_either}
-use Rattle.combiner.proofs.Good.{cell_good, cell_alone}
-use Rattle.combiner.proofs.Sums.{block_fits, words_of_plan}
+use Rattle.combiner.proofs.OfRows.{all_rows, cells_cut, some_rows, table_cells_good}
 use Rattle.client_rounds.specs.declared.faults.Source.TheVariants as source
 use Rattle.client_rounds.specs.declared.judging.Judged.{Judged}
 use Rattle.client_rounds.specs.WellPut.{IsWellPut}
 use Rattle.client_rounds.specs.Finishing.{finished, note_in, result_of}
-use Rattle.client_rounds.proofs.CellWords.{cell_small, word_small, each_small, added-map, listed}
+use Rattle.client_rounds.proofs.AnswerWords.{added_is, last_is_first, words_fit}
 use Rattle.client_rounds.proofs.Read.{note_read, answer_read, note_judged, result_is, finished_is, final_is}
 use Rattle.client_rounds.proofs.Spelled.{AreWords, note_spelled, sha256_small}
 
@@ -101,18 +91,25 @@ module _ (e : Meaning) (checked : Checked) (table : TableParts) (params drawn : 
   pub answer_spelled : (p : Provider) → IsTable table → IsCheckedFor checked table.shape.schema → IsQuery checked.query → AreParamsFor checked table.shape.schema params → IsBuilt checked table.shape.schema.columns → wide drawn < 2 ^ 128
       → AnswerOf (round_answer e p checked table params drawn) (answer_by p)
   answer_spelled p valid accepted form known built small =
-      let count = answer_length e p checked table params drawn_roots valid accepted form known built roots_count in
-      let fit = words_fit checked table params accepted form known valid built in
+      let count = answer_length checked table params drawn_roots valid accepted form known roots_count e p built ∙ words_planned checked table params accepted form known built in
+      let fit = words_fit checked table.shape params valid.shape.schema accepted form known built in
       record {
         allowed = record { round = omega arith; round_end = omega arith; some = omega (arith, fit.0, count); count = omega (arith, fit.1, count) };
         typed = record {
           session = small;
           key = (length-sha256 (key_bytes e p checked table.shape params drawn), sha256_small (key_bytes e p checked table.shape params drawn));
           table = (length-sha256 _, sha256_small _);
-          words = answer_small e p checked table params drawn_roots;
+          words = answers_small e p 1 (key_list e p 0 (secrets_in checked table.shape params first_round) drawn_roots) checked table;
         };
         spelled = refl;
       }
+
+-- ---- rows of the table
+
+-- rows that pass a test are rows of the table
+each_of_table : (table : TableParts) → IsTable table → (rowses : List (List Row)) → AllByRecursion (ArePicked table) rowses → AllByRecursion (AreRowsOf table) rowses
+each_of_table table valid [] h = tt
+each_of_table table valid (rows ∷ rowses) h = (subst (AreRowsOf table) (sym h.0.1) (some_rows table h.0.0 (rows_of table) (all_rows table valid)), each_of_table table valid rowses h.1)
 
 -- ---- notes
 
@@ -141,9 +138,9 @@ module _ (e : Meaning) (pure : IsPure e) (checked : Checked) (table : TableParts
   words_add =
       let roots = drawn_roots e checked table params drawn in
       let same = roots_count e checked table params drawn in
-      let count = λ (p : Provider). answer_length e p checked table params roots valid accepted form.form known built same in
-      let each = answers_add e pure checked table params roots valid accepted form.form known built same in
-      added_is (first_answer e Zero checked table params roots) (first_answer e One checked table params roots) (cells_back checked table params) (count Zero) (count One) each
+      let count = λ (p : Provider). answer_length checked table params roots valid accepted form.form known same e p built in
+      added_is (first_answer e Zero checked table params roots) (first_answer e One checked table params roots) (cells_back checked table params) (count Zero) (count One)
+      (word_added checked table params roots valid accepted form.form known same e pure built)
 
   -- what the note says
   abbrev judged : Judged
@@ -161,20 +158,21 @@ module _ (e : Meaning) (pure : IsPure e) (checked : Checked) (table : TableParts
   both_are =
       let roots = drawn_roots e checked table params drawn in
       let same = roots_count e checked table params drawn in
-      let planned = sym (words_back checked table params accepted form.form known built) in
-      let count = λ (p : Provider). planned ∙ sym (answer_length e p checked table params roots valid accepted form.form known built same) in
+      let planned = last_is_first checked table.shape built ∙ sym (words_planned checked table params accepted form.form known built) in
+      let count = λ (p : Provider). planned ∙ sym (answer_length checked table params roots valid accepted form.form known same e p built) in
       combined_agreed (note e checked table.shape params drawn) (answers Zero) (answers One) (last_words (plan_of checked table.shape)) refl refl refl refl refl refl refl refl (count Zero) (count One) refl refl
       ∙ ap (λ (words : List ℕ). Ok words) words_add
 
   final_are : final_of checked table.shape (cells_back checked table params) ≡ Ok (clear table.shape.schema.columns checked.spec (matching_rows checked params table))
   final_are =
       let columns = table.shape.schema.columns in
+      let adds = adds_in columns in
       let rowses = rows_back checked table params in
-      let rows = matching_rows checked params table in
-      final_is checked table.shape (cells_back checked table params) (clear columns checked.spec rows)
-      (good_cells checked table valid accepted rowses (rows_back_inside checked table params valid))
-      (ap (λ cells. answer_of columns checked.spec (merge_all checked.spec cells)) (cells_again checked table valid accepted rowses)
-      ∙ (ap (answer_of columns checked.spec) (back_merges checked table params valid accepted form.form known built) ∙ matching_clear checked params table bounds))
+      let of_table = all_at (AreRowsOf table) rowses (each_of_table table valid rowses (back_picked (kind_of checked columns) checked table params)) in
+      final_is checked table.shape (cells_back checked table params) (clear columns checked.spec (matching_rows checked params table))
+      (table_cells_good adds checked table rowses valid accepted of_table)
+      (ap (λ (cells : List (List ℕ)). answer_of columns checked.spec (merge_all checked.spec cells)) (cells_cut adds checked table.shape.schema rowses valid.shape.schema accepted)
+      ∙ (ap (answer_of columns checked.spec) (back_merge checked table params valid accepted form.form known built) ∙ matching_clear checked params table bounds))
 
   text_is : (a b : AnswerFrame) → combined (note e checked table.shape params drawn) a b (last_words (plan_of checked table.shape)) ≡ Ok (cells_back checked table params) → result_of judged a b ≡ Ok (clear_text checked params table)
   unfolding clear_text
