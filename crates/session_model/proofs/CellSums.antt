@@ -92,6 +92,12 @@ length-cell adds spec rows =
     same_lengths (block adds spec.items) (block_width spec.items) (length-block adds spec.items) (groups spec.group spec.labels rows)
     ∙ ap (λ n. n * block_width spec.items) (count_groups spec.group spec.labels rows)
 
+-- each word of zeros is 0
+pub no_word : (n k : ℕ) → slice_index (replicate n 0) k ≡ 0
+no_word zero k = refl
+no_word (suc n) zero = refl
+no_word (suc n) (suc k) = no_word n k
+
 pub all_right : (b : List Row) → Interleaves [] b b
 all_right [] = none
 all_right (x ∷ xs) = right x [] xs xs (all_right xs)
@@ -106,11 +112,6 @@ module _ (adds : Addends) (spec : CellSpec) (sums : list_all is_sum spec.items �
       let union = cell_merge adds spec (r ∷ []) rows (r ∷ rows) (left r [] rows rows (all_right rows)) apart few in
       let parts = blocks_add (blocks spec.group spec.labels) spec.items (cell adds spec (r ∷ [])) (cell adds spec rows) sums one others in
       ap (λ l. slice_index l k) (sym union ∙ parts) ∙ word_at (cell adds spec (r ∷ [])) (cell adds spec rows) k (rw one here) (rw others here)
-
-  no_word : (n k : ℕ) → slice_index (replicate n 0) k ≡ 0
-  no_word zero k = refl
-  no_word (suc n) zero = refl
-  no_word (suc n) (suc k) = no_word n k
 
   chosen : (passes : Row → Bool) (r : Row) (rows : List Row) (k s : ℕ) (b : Bool) → Apart (r ∷ rows) → length (r ∷ rows) < 2 ^ 64 → k < cell_width spec
       → s % 2 ^ 64 ≡ slice_index (cell adds spec rows) k % 2 ^ 64

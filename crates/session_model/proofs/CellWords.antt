@@ -1,22 +1,21 @@
 -- The words of the cells of a table's rows are words.
-use Rattle.std.proofs.Common.{◌≡◌, ℕ, zero, suc, ◌+◌, ◌%◌, ◌^◌, ◌<◌, ◌≤◌, Bool, true, false, cond, leb, eqb, List, [], ◌∷◌, ◌++◌, length, min, max, Option, None, Some, refl, sym, ap, ◌∙◌, arith}
+use Rattle.std.proofs.Common.{ℕ, zero, suc, ◌+◌, ◌^◌, ◌<◌, ◌≤◌, Bool, eqb, List, [], ◌∷◌, ◌++◌, length, Option, None, Some, arith}
 use Rattle.std.specs.Prelude.{All, map, slice_index}
 use Rattle.std.specs.List.{AllByRecursion, filter, flat_map, range_with_len}
 use Rattle.std.proofs.Math.Nat.{pow-le-pow_right}
-use Rattle.std.proofs.lemmas.Bool.Decides.{nat_tests}
 use Rattle.std.proofs.lemmas.List.Elements.{All-head, All-tail}
 use Rattle.std.proofs.lemmas.Nat.{pow_pos}
 use Rattle.spl_values.specs.Shapes.{ColumnParts}
 use Rattle.spl_values.specs.Tables.{TableParts, IsTable, column_bits}
 use Rattle.cell_merge.specs.declared.entry.Entry.{Entry}
-use Rattle.cell_merge.specs.Entries.{before, entry, in_order, insertion, ordered, words_of}
+use Rattle.cell_merge.specs.Entries.{entry, in_order, words_of}
 use Rattle.cell_merge.specs.Rows.{Row, code}
 use Rattle.cell_merge.specs.Cells.{Addends, block, cell, greatest, groups, item_words, items_words, least, with_label}
-use Rattle.cell_merge.specs.TableRows.{KeepsWords, row_in, rows_of}
+use Rattle.cell_merge.specs.TableRows.{KeepsWords, rows_of}
 use Rattle.cell_merge.specs.declared.spec.CellItem.{CellItem}
 use Rattle.cell_merge.specs.declared.spec.CellItem.TheVariants.{Count, Sum, Avg, Max, Min, TopK}
 use Rattle.cell_merge.specs.declared.spec.CellSpec.{CellSpec}
-use Rattle.cell_merge.proofs.Lists.{each-filter, each-map, each_weaker, length-filter-le}
+use Rattle.cell_merge.proofs.Lists.{each-filter, length-filter-le}
 use Rattle.cell_merge.proofs.Sorting.{each-in_order}
 use Rattle.session_model.proofs.TableRows.{each_row, row_codes}
 

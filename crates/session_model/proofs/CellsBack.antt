@@ -1,20 +1,19 @@
 -- The words of both answers add to the words of the cells that come back.
-use Rattle.std.proofs.Common.{◌≡◌, ℕ, zero, suc, ◌+◌, ◌-◌, ◌*◌, ◌/◌, ◌%◌, ◌^◌, ◌<◌, ◌≤◌, Bool, true, false, ◌&&◌, eqb, List, [], ◌∷◌, ◌++◌, length, take, drop, inl, inr, refl, sym, ap, ap₂, subst, ◌∙◌, arith}
-use Rattle.std.specs.Prelude.{All, map, slice_index}
+use Rattle.std.proofs.Common.{◌≡◌, ℕ, ◌+◌, ◌-◌, ◌*◌, ◌/◌, ◌^◌, ◌<◌, ◌≤◌, Bool, true, ◌&&◌, eqb, List, [], ◌∷◌, length, take, drop, inl, inr, refl, sym, ap, ap₂, subst, ◌∙◌, arith}
+use Rattle.std.specs.Prelude.{map, slice_index}
 use Rattle.std.specs.List.{AllByRecursion, filter, flat_map, list_all, range_with_len}
-use Rattle.std.proofs.Math.Nat.{add-mul, mod-eq_of_lt, one-mul, zero-mul}
+use Rattle.std.proofs.Math.Nat.{mod-eq_of_lt}
 use Rattle.std.proofs.lemmas.List.{append-nil, length-map}
 use Rattle.spl_words.specs.Words.{plus}
 use Rattle.spl_words.specs.Folds.{fold_word, fold_words}
 use Rattle.spl_words.specs.Secrets.{Secret, secret_tree, secret_value}
 use Rattle.spl_words.specs.declared.provider.Provider.{Provider}
 use Rattle.spl_words.specs.declared.provider.Provider.TheVariants.{Zero, One}
-use Rattle.spl_values.specs.Shapes.{ColumnParts}
 use Rattle.spl_values.specs.Tables.{TableParts, IsTable}
 use Rattle.cell_merge.specs.Rows.{Row}
 use Rattle.cell_merge.specs.Cells.{Addends, cell, cell_width}
 use Rattle.cell_merge.specs.TableRows.{adds_in, rows_of}
-use Rattle.cell_merge.proofs.Lists.{each-filter, length-filter-le}
+use Rattle.cell_merge.proofs.Lists.{length-filter-le}
 use Rattle.seed_expansion.specs.Expanders.{Meaning, IsPure}
 use Rattle.query_grammar.specs.Canonical.{IsQuery}
 use Rattle.query_reader.specs.declared.checked.Checked.{Checked}
@@ -41,7 +40,7 @@ use Rattle.session_model.proofs.CellSums.{length-cell, same_lengths, word_at, wo
 use Rattle.session_model.proofs.CellWords.{AreWords, cell_small, filter_few, rows_are, word_small, words_both}
 use Rattle.session_model.proofs.KeptRows.{kept_below}
 use Rattle.session_model.proofs.Plans.{built_kinds, cell_folds, folds_are, points_deep, sums_of_kind}
-use Rattle.session_model.proofs.TreeWords.{added-map, by_tree, length-tree_words, length-words, listed, tree_words, trees_add}
+use Rattle.session_model.proofs.TreeWords.{both_words, by_tree, length-tree_words, length-words, tree_words, trees_add}
 
 -- ---- rows
 
@@ -55,13 +54,17 @@ each_picked checked t [] = tt
 each_picked checked t (s ∷ ss) = (told_picked checked t s, each_picked checked t ss)
 
 -- each cell that comes back is one of rows of the table that pass a test
-pub back_picked : (k : PlanKind) (checked : Checked) (t : TableParts) (params : List ℕ) → AllByRecursion (ArePicked t) (rows_for k checked t params)
-back_picked kind.Sum checked t params =
-    let holds = some_branch_holds checked.branches checked.columns checked.range params in
-    (((λ r. is_kept checked.public r && holds r), filter_filter (is_kept checked.public) holds (rows_of t)), tt)
-back_picked kind.Point checked t params = each_picked checked t (secrets_in checked t.shape params first_round)
-back_picked kind.Aligned checked t params = each_picked checked t (secrets_in checked t.shape params first_round)
-back_picked kind.Position checked t params = tt
+pub back_picked : (checked : Checked) (t : TableParts) (params : List ℕ) → AllByRecursion (ArePicked t) (rows_back checked t params)
+unfolding rows_back
+back_picked checked t params = by_kind (kind_of checked t.shape.schema.columns)
+  where
+    by_kind : (k : PlanKind) → AllByRecursion (ArePicked t) (rows_for k checked t params)
+    by_kind kind.Sum =
+        let holds = some_branch_holds checked.branches checked.columns checked.range params in
+        (((λ r. is_kept checked.public r && holds r), filter_filter (is_kept checked.public) holds (rows_of t)), tt)
+    by_kind kind.Point = each_picked checked t _
+    by_kind kind.Aligned = each_picked checked t _
+    by_kind kind.Position = tt
 
 picked_few : (t : TableParts) (rows : List Row) → ArePicked t rows → length rows ≤ length t.rows
 picked_few t rows is =
@@ -93,14 +96,23 @@ module _ (checked : Checked) (t : TableParts) (valid : IsTable t) (accepted : Is
   each_small (rows ∷ back) each = words_both (cell adds checked.spec rows) (flat_map (cell adds checked.spec) back) (picked_small rows each.0) (each_small back each.1)
 
   pub cells_small : (params : List ℕ) → AreWords (cells_back checked t params)
-  cells_small params = each_small (rows_back checked t params) (back_picked (kind_of checked t.shape.schema.columns) checked t params)
+  cells_small params = each_small (rows_back checked t params) (back_picked checked t params)
 
--- what comes back is what each secret tells
-pub told_back : (k : PlanKind) (checked : Checked) (t : TableParts) (params : List ℕ) → brings_cells k ≡ true → rows_for k checked t params ≡ each_told checked t params
-told_back kind.Sum checked t params brings = absurd cc
-told_back kind.Point checked t params brings = refl
-told_back kind.Aligned checked t params brings = refl
-told_back kind.Position checked t params brings = absurd cc
+-- what comes back of a sum are the matching rows
+pub sum_rows : (checked : Checked) (t : TableParts) (params : List ℕ) → kind_of checked t.shape.schema.columns ≡ kind.Sum → rows_back checked t params ≡ matching_rows checked params t ∷ []
+unfolding rows_back
+sum_rows checked t params sum = ap (λ k. rows_for k checked t params) sum
+
+-- and else those that each secret tells
+pub told_back : (checked : Checked) (t : TableParts) (params : List ℕ) → brings_cells (kind_of checked t.shape.schema.columns) ≡ true → rows_back checked t params ≡ each_told checked t params
+unfolding rows_back
+told_back checked t params brings = by_kind (kind_of checked t.shape.schema.columns) brings
+  where
+    by_kind : (k : PlanKind) → brings_cells k ≡ true → rows_for k checked t params ≡ each_told checked t params
+    by_kind kind.Sum brings = absurd cc
+    by_kind kind.Point brings = refl
+    by_kind kind.Aligned brings = refl
+    by_kind kind.Position brings = absurd cc
 
 -- ---- answers
 
@@ -151,10 +163,10 @@ module _ (checked : Checked) (t : TableParts) (params : List ℕ) (roots : List 
   -- ---- how long they are
 
   sum_back : the_kind ≡ kind.Sum → cells_back checked t params ≡ spec_cell (matching_rows checked params t)
-  sum_back sum = ap (λ k. flat_map spec_cell (rows_for k checked t params)) sum ∙ append-nil (spec_cell (matching_rows checked params t))
+  sum_back sum = ap (λ l. flat_map spec_cell l) (sum_rows checked t params sum) ∙ append-nil (spec_cell (matching_rows checked params t))
 
   tree_back : brings_cells the_kind ≡ true → cells_back checked t params ≡ flat_map spec_cell (each_told checked t params)
-  tree_back brings = ap (λ l. flat_map spec_cell l) (told_back the_kind checked t params brings)
+  tree_back brings = ap (λ l. flat_map spec_cell l) (told_back checked t params brings)
 
   pub answer_length : (e : Meaning) (p : Provider) → IsBuilt checked t.shape.schema.columns → length (first_answer e p checked t params roots) ≡ length (cells_back checked t params)
   answer_length e p built =
@@ -179,15 +191,9 @@ module _ (checked : Checked) (t : TableParts) (params : List ℕ) (roots : List 
         let whole : length back ≡ width = length-cell (adds_in t.shape.schema.columns) checked.spec rows in
         let small : AreWords back = subst (λ (l : List ℕ). AreWords l) (sum_back sum) (cells_small checked t valid accepted params) in
         let sums : list_all is_sum checked.spec.items ≡ true = sums_of_kind (list_all is_sum checked.spec.items) checked.range (last_bits t.shape.schema.columns checked.columns) sum in
-        let each : (k : ℕ) → k < length back → plus (f (0 + k)) (g (0 + k)) ≡ slice_index back k =
-        λ k here.
-        let start : 0 + k ≡ k = omega arith in
-        ap (λ (i : ℕ). plus (f i) (g i)) start
-        ∙ answers_add e pure checked t params roots valid accepted form known sums same k (omega (arith, here, whole))
-        ∙ mod-eq_of_lt (word_small back k small here) in
-        ap₂ wordwise (sum_answer e Zero sum) (sum_answer e One sum)
-        ∙ (added-map f g (range_with_len 0 width)
-        ∙ (ap (λ n. map (λ k. plus (f k) (g k)) (range_with_len 0 n)) (sym whole) ∙ (listed (λ k. plus (f k) (g k)) 0 back each ∙ sym (sum_back sum))))
+        let each : (k : ℕ) → k < length back → plus (f k) (g k) ≡ slice_index back k =
+        λ k here. answers_add e pure checked t params roots valid accepted form known sums same k (omega (arith, here, whole)) ∙ mod-eq_of_lt (word_small back k small here) in
+        ap₂ wordwise (sum_answer e Zero sum) (sum_answer e One sum) ∙ (both_words f g back width whole each ∙ sym (sum_back sum))
 
     cells_add : brings_cells the_kind ≡ true → wordwise (first_answer e Zero checked t params roots) (first_answer e One checked t params roots) ≡ cells_back checked t params
     cells_add brings =
@@ -232,4 +238,5 @@ module _ (checked : Checked) (t : TableParts) (params : List ℕ) (accepted : Is
 
   -- as many words as the plan tells
   pub words_planned : IsBuilt checked t.shape.schema.columns → length (cells_back checked t params) ≡ (plan_of checked t.shape).first_words
+  unfolding rows_back
   words_planned built = words_by_kind (kind_of checked t.shape.schema.columns) built

@@ -1,11 +1,10 @@
 -- The cells that come back merge to the cell of the rows that match.
-use Rattle.std.proofs.Common.{◌≡◌, ℕ, zero, suc, ◌+◌, ◌-◌, ◌*◌, ◌/◌, ◌^◌, ◌<◌, ◌≤◌, Bool, true, false, cond, eqb, List, [], ◌∷◌, length, inl, inr, refl, sym, ap, ap₂, subst, ◌∙◌, arith}
+use Rattle.std.proofs.Common.{◌≡◌, ℕ, zero, suc, ◌+◌, ◌-◌, ◌/◌, ◌^◌, ◌<◌, ◌≤◌, Bool, true, cond, eqb, List, [], ◌∷◌, length, inl, inr, refl, sym, ap, ap₂, ◌∙◌, arith}
 use Rattle.std.specs.Prelude.{map, sum_by}
 use Rattle.std.specs.List.{AllByRecursion, filter}
 use Rattle.std.proofs.lemmas.Simd.{map-map}
 use Rattle.std.proofs.lemmas.List.Sums.{sum_by-cons}
 use Rattle.spl_words.specs.Secrets.{Secret, secret_value}
-use Rattle.spl_words.specs.declared.secret.TreeKind.TheVariants.{Point}
 use Rattle.spl_values.specs.Tables.{TableParts, IsTable}
 use Rattle.cell_merge.specs.Rows.{Row, Apart}
 use Rattle.cell_merge.specs.Cells.{Addends, cell, merge, merge_all}
@@ -21,16 +20,13 @@ use Rattle.query_reader.specs.Accepted.{IsCheckedFor}
 use Rattle.query_reader.specs.Matching.{kept_rows, matching_rows, some_branch_holds}
 use Rattle.query_reader.specs.Params.{AreParamsFor}
 use Rattle.count_sum.specs.SumPairs.{joined_key}
-use Rattle.private_plan.specs.declared.plans.PlanKind.{PlanKind}
-use Rattle.private_plan.specs.declared.plans.PlanKind.TheVariants as kind
-use Rattle.private_plan.specs.Branches.{row_key}
 use Rattle.private_plan.specs.Plans.{IsBuilt, brings_cells, kind_of}
 use Rattle.private_plan.specs.Rounds.{first_round, secrets_in}
 use Rattle.private_plan.specs.Slots.{IsPointOf}
 use Rattle.private_plan.proofs.Telling.{are_points, tell_rows}
-use Rattle.session_model.specs.Cells.{each_told, rows_back, rows_for, told_rows}
+use Rattle.session_model.specs.Cells.{each_told, rows_back, told_rows}
 use Rattle.session_model.proofs.CellSums.{all_right}
-use Rattle.session_model.proofs.CellsBack.{told_back}
+use Rattle.session_model.proofs.CellsBack.{sum_rows, told_back}
 use Rattle.session_model.proofs.KeptRows.{each_kept, few_kept, kept_apart}
 use Rattle.session_model.proofs.Plans.{built_kinds}
 use Rattle.session_model.proofs.TableRows.{row_codes, row_key_same}
@@ -106,6 +102,6 @@ module _ (checked : Checked) (t : TableParts) (params : List ℕ) (valid : IsTab
   pub back_merge : IsBuilt checked t.shape.schema.columns → merge_all checked.spec (map the_cell (rows_back checked t params)) ≡ the_cell (matching_rows checked params t)
   back_merge built =
       elim (built_kinds (kind_of checked t.shape.schema.columns) built) [
-        | inl sum ↦ ap (λ (k : PlanKind). merge_all checked.spec (map the_cell (rows_for k checked t params))) sum ∙ sum_merge
-        | inr brings ↦ ap (λ l. merge_all checked.spec (map the_cell l)) (told_back (kind_of checked t.shape.schema.columns) checked t params brings) ∙ told_merge brings
+        | inl sum ↦ ap (λ l. merge_all checked.spec (map the_cell l)) (sum_rows checked t params sum) ∙ sum_merge
+        | inr brings ↦ ap (λ l. merge_all checked.spec (map the_cell l)) (told_back checked t params brings) ∙ told_merge brings
       ]

@@ -1,6 +1,6 @@
 -- The kept rows of a valid table: their joined keys, their numbers and how many they are.
-use Rattle.std.proofs.Common.{◌≡◌, ℕ, ◌+◌, ◌^◌, ◌<◌, ◌≤◌, Bool, List, [], ◌∷◌, length, refl, sym, ap, ◌∙◌, arith}
-use Rattle.std.specs.List.{AllByRecursion, filter}
+use Rattle.std.proofs.Common.{ℕ, ◌^◌, ◌<◌, length, arith}
+use Rattle.std.specs.List.{AllByRecursion}
 use Rattle.spl_values.specs.Tables.{TableParts, IsTable}
 use Rattle.cell_merge.specs.Rows.{Row, Apart}
 use Rattle.cell_merge.specs.TableRows.{row_in, rows_of}

@@ -1,14 +1,14 @@
 -- Plans that are built: of sums, or of trees that bring a cell each.
-use Rattle.std.proofs.Common.{◌≡◌, ℕ, ◌+◌, ◌-◌, ◌⊎◌, Bool, true, false, List, [], ◌∷◌, inl, inr, refl, sym, ap, ap₂, subst, ◌∙◌, arith}
+use Rattle.std.proofs.Common.{◌≡◌, ℕ, ◌+◌, ◌-◌, ◌⊎◌, Bool, true, false, List, [], ◌∷◌, inl, inr, refl, sym, ap, ap₂, subst, arith}
 use Rattle.std.specs.Prelude.{nat_le, if◌then◌else◌}
-use Rattle.std.specs.List.{AllByRecursion, flat_map, list_all, range_with_len}
+use Rattle.std.specs.List.{AllByRecursion, flat_map, range_with_len}
 use Rattle.spl_words.specs.declared.secret.KeySpec.{KeySpec}
 use Rattle.spl_words.specs.declared.secret.TreeKind.TheVariants.{Point as PointTree}
 use Rattle.spl_values.specs.Shapes.{ShapeParts}
 use Rattle.query_reader.specs.declared.checked.Checked.{Checked}
 use Rattle.private_plan.specs.declared.plans.PlanKind.{PlanKind}
 use Rattle.private_plan.specs.declared.plans.PlanKind.TheVariants as kind
-use Rattle.private_plan.specs.Plans.{brings_cells, for_each_slot, is_built, is_sum, kind_for, last_bits, plan_of, slot_trees, tree}
+use Rattle.private_plan.specs.Plans.{brings_cells, for_each_slot, is_built, kind_for, last_bits, plan_of, slot_trees, tree}
 use Rattle.private_plan.specs.Rounds.{Fold, by_key, each_tree, first_depth, folds_for}
 
 pub built_kinds : (k : PlanKind) → is_built k ≡ true → (k ≡ kind.Sum) ⊎ (brings_cells k ≡ true)

@@ -8,7 +8,7 @@ use Rattle.std.proofs.lemmas.List.Sums.{sum_by-cons}
 use Rattle.std.proofs.lemmas.Nat.{pow-add, pow_pos}
 use Rattle.spl_words.specs.Folds.{fold_word}
 use Rattle.spl_words.specs.Rising.{rising}
-use Rattle.spl_words.specs.Secrets.{Secret, point_value, secret_value, secrets_value}
+use Rattle.spl_words.specs.Secrets.{Secret, secret_value, secrets_value}
 use Rattle.spl_words.specs.declared.secret.TreeKind.TheVariants.{Point}
 use Rattle.spl_words.proofs.Rising.{any-rising}
 use Rattle.cell_merge.specs.Rows.{Row}
@@ -19,7 +19,8 @@ use Rattle.cell_merge.proofs.Lists.{each-map}
 use Rattle.cell_runs.specs.CellsBy.{cells_by, rows_at}
 use Rattle.cell_runs.proofs.Grouping.{cell_at}
 use Rattle.cell_runs.proofs.Numbers.{all_among, among_all}
-use Rattle.session_model.proofs.PointCells.{no_word, point_is, point_told}
+use Rattle.session_model.proofs.CellSums.{no_word}
+use Rattle.session_model.proofs.PointCells.{point_is, point_told}
 
 -- ---- one secret
 

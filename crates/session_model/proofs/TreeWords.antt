@@ -1,5 +1,5 @@
 -- The words of an answer tree by tree, and what those of both providers add to.
-use Rattle.std.proofs.Common.{◌≡◌, ℕ, zero, suc, ◌+◌, ◌-◌, ◌*◌, ◌/◌, ◌%◌, ◌^◌, ◌<◌, ◌≤◌, Bool, true, false, List, [], ◌∷◌, ◌++◌, length, take, drop, refl, sym, ap, ap₂, ◌∙◌, arith, length-append}
+use Rattle.std.proofs.Common.{◌≡◌, ℕ, suc, ◌+◌, ◌-◌, ◌/◌, ◌^◌, ◌<◌, List, [], ◌∷◌, ◌++◌, length, take, drop, refl, sym, ap, ap₂, ◌∙◌, arith, length-append}
 use Rattle.std.specs.Prelude.{map, slice_index}
 use Rattle.std.specs.List.{AllByRecursion, flat_map, range_with_len}
 use Rattle.std.proofs.Math.Nat.{mod-eq_of_lt}
@@ -20,7 +20,7 @@ use Rattle.query_reader.specs.declared.checked.Checked.{Checked}
 use Rattle.query_reader.specs.Matching.{kept_rows}
 use Rattle.count_sum.specs.SumPairs.{joined_key}
 use Rattle.key_frames.specs.declared.keys.Key.{Key}
-use Rattle.key_frames.specs.Trees.{key_list, key_of, key_shares}
+use Rattle.key_frames.specs.Trees.{key_list, key_shares}
 use Rattle.key_frames.proofs.TreeLaws.{folds_add}
 use Rattle.private_plan.specs.Rounds.{by_key, each_tree}
 use Rattle.private_plan.specs.Slots.{IsPointOf}
@@ -32,18 +32,26 @@ use Rattle.session_model.proofs.Told.{alone, each_number, fewer_bits, fold_told,
 
 -- ---- lists of words
 
-pub added-map : (f g : ℕ → ℕ) (ks : List ℕ) → wordwise (map f ks) (map g ks) ≡ map (λ k. plus (f k) (g k)) ks
+added-map : (f g : ℕ → ℕ) (ks : List ℕ) → wordwise (map f ks) (map g ks) ≡ map (λ k. plus (f k) (g k)) ks
 added-map f g [] = refl
 added-map f g (k ∷ ks) = ap (λ (l : List ℕ). plus (f k) (g k) ∷ l) (added-map f g ks)
 
 -- a list is what a function gives of its places, where that is the word at each
-pub listed : (f : ℕ → ℕ) (a : ℕ) (words : List ℕ) → ((k : ℕ) → k < length words → f (a + k) ≡ slice_index words k) → map f (range_with_len a (length words)) ≡ words
+listed : (f : ℕ → ℕ) (a : ℕ) (words : List ℕ) → ((k : ℕ) → k < length words → f (a + k) ≡ slice_index words k) → map f (range_with_len a (length words)) ≡ words
 listed f a [] each = refl
 listed f a (w ∷ ws) each =
     let start : a ≡ a + 0 = omega arith in
     let here : f a ≡ w = ap f start ∙ each 0 (omega arith) in
     let more : map f (range_with_len (a + 1) (length ws)) ≡ ws = listed f (a + 1) ws (λ k h. let next : a + 1 + k ≡ a + suc k = omega arith in ap f next ∙ each (suc k) (omega (arith, h))) in
     rw (here, more) refl
+
+-- the words at both places add to the list whose words they add to
+pub both_words : (f g : ℕ → ℕ) (words : List ℕ) (n : ℕ) → length words ≡ n → ((k : ℕ) → k < length words → plus (f k) (g k) ≡ slice_index words k)
+    → wordwise (map f (range_with_len 0 n)) (map g (range_with_len 0 n)) ≡ words
+both_words f g words n whole each =
+    added-map f g (range_with_len 0 n)
+    ∙ (ap (λ m. map (λ k. plus (f k) (g k)) (range_with_len 0 m)) (sym whole)
+    ∙ listed (λ k. plus (f k) (g k)) 0 words (λ k here. let start : 0 + k ≡ k = omega arith in ap (λ (j : ℕ). plus (f j) (g j)) start ∙ each k here))
 
 wordwise_behind : (a b c d : List ℕ) → length a ≡ length b → wordwise (a ++ c) (b ++ d) ≡ wordwise a b ++ wordwise c d
 wordwise_behind [] [] c d same = refl
@@ -128,12 +136,7 @@ module _ (checked : Checked) (t : TableParts) where
         → wordwise (map (tree_word e Zero i s r) (range_with_len 0 width)) (map (tree_word e One i s r) (range_with_len 0 width)) ≡ cell adds checked.spec (told_rows checked t s)
     tree_adds i s r is =
         let back = cell adds checked.spec (told_rows checked t s) in
-        let f = tree_word e Zero i s r in
-        let g = tree_word e One i s r in
-        let whole : length back ≡ width = length-cell adds checked.spec (told_rows checked t s) in
-        added-map f g (range_with_len 0 width)
-        ∙ (ap (λ n. map (λ k. plus (f k) (g k)) (range_with_len 0 n)) (sym whole)
-        ∙ listed (λ k. plus (f k) (g k)) 0 back (λ k here. let start : 0 + k ≡ k = omega arith in ap (λ (j : ℕ). plus (f j) (g j)) start ∙ word_adds i s r k is here))
+        both_words (tree_word e Zero i s r) (tree_word e One i s r) back width (length-cell adds checked.spec (told_rows checked t s)) (λ k here. word_adds i s r k is here)
 
     pub trees_add : (i : ℕ) (ss : List Secret) (rs : List (ℕ × ℕ)) → length rs ≡ length ss → AllByRecursion (IsPointOf checked.bits) ss
         → wordwise (tree_words e Zero i ss rs) (tree_words e One i ss rs) ≡ told_cells ss

@@ -34,7 +34,7 @@ rows_for kind.Aligned checked table params = each_told checked table params
 rows_for kind.Position checked table params = []
 
 -- the same of a query's plan
-abbrev pub rows_back : Checked → TableParts → List ℕ → List (List Row)
+unfoldable pub rows_back : Checked → TableParts → List ℕ → List (List Row)
 rows_back checked table params = rows_for (kind_of checked table.shape.schema.columns) checked table params
 
 -- rows of a table that pass some test
