@@ -1,7 +1,7 @@
 -- Spelled notes and answers are read, and what is read comes to a result.
 use Rattle.std.proofs.Common.{◌≡◌, ℕ, List, length, Ok, refl, ap, arith}
 use Rattle.spl_values.specs.Shapes.{ShapeParts}
-use Rattle.cell_merge.specs.Cells.{block_width}
+use Rattle.cell_merge.specs.Cells.{cell_width, merge_all}
 use Rattle.frame_fields.specs.Reading.{frame_at}
 use Rattle.frame_fields.proofs.Laws.{frame_only}
 use Rattle.query_reader.specs.declared.checked.Checked.{Checked}
@@ -20,7 +20,8 @@ use Rattle.clear_sql.specs.declared.answer.Group.{Group}
 use Rattle.clear_sql.specs.AnswerText.{answer_text}
 use Rattle.clear_sql.specs.CellAnswers.{answer_of}
 use Rattle.combiner.specs.Combining.{combined}
-use Rattle.combiner.specs.Finals.{last_words, good_words, merged_alone, final_of}
+use Rattle.combiner.specs.Finals.{cells_in, last_words, final_of}
+use Rattle.combiner.specs.GoodWords.{good_words}
 use Rattle.client_rounds.specs.declared.faults.Source.{Source}
 use Rattle.client_rounds.specs.declared.faults.Source.TheVariants as source
 use Rattle.client_rounds.specs.declared.judging.Judged.{Judged}
@@ -55,7 +56,7 @@ pub finished_is : (note a b : List ℕ) (j : Judged) (first second : AnswerFrame
 unfolding finished text_of_answers
 finished_is note a b j first second text judged one two result = rw (judged, one, two) result
 
-pub final_is : (checked : Checked) (shape : ShapeParts) (words : List ℕ) (groups : List Group) → good_words (block_width checked.spec.items) shape.rows 0 words ≡ Ok tt → merged_alone checked.spec words ≡ words
-    → answer_of shape.schema.columns checked.spec words ≡ groups → final_of checked shape words ≡ Ok groups
+pub final_is : (checked : Checked) (shape : ShapeParts) (words : List ℕ) (groups : List Group) → good_words shape.schema.columns checked.spec.items shape.rows 0 words ≡ Ok tt
+    → answer_of shape.schema.columns checked.spec (merge_all checked.spec (cells_in (cell_width checked.spec) words)) ≡ groups → final_of checked shape words ≡ Ok groups
 unfolding final_of
-final_is checked shape words groups good alone answer = rw (good, alone, answer) refl
+final_is checked shape words groups good answer = rw (good, answer) refl

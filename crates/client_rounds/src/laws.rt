@@ -28,7 +28,7 @@ ghost use Rattle.private_plan.specs.Plans.{IsBuilt};
 ghost use Rattle.private_plan.specs.Rounds.{first_round, secrets_in};
 ghost use Rattle.session_model.specs.Answers.{answer_frame};
 ghost use Rattle.session_model.specs.Sessions.{key_frame, key_bytes, note, note_bytes, round_answer, clear_text};
-ghost use Rattle.client_rounds.specs.Asked.{IsAsked};
+ghost use Rattle.client_rounds.specs.WellPut.{IsWellPut};
 ghost use Rattle.client_rounds.specs.Expanding.{GivesSeeds};
 ghost use Rattle.client_rounds.specs.Rounds.{round_length};
 ghost use Rattle.client_rounds.specs.Finishing.{finished};
@@ -44,12 +44,12 @@ pub fn canonical_text_fits()
 
 /// A first round asks for 1 to 256 trees.
 pub fn first_rounds_ask_for_few_trees()
-    ensures { (checked : TheChecked) (shape : ShapeParts) (params : List ℕ) → IsAsked checked shape params → (1 ≤ length (secrets_in checked shape params first_round)) × (length (secrets_in checked shape params first_round) ≤ 256) }
+    ensures { (checked : TheChecked) (shape : ShapeParts) (params : List ℕ) → IsWellPut checked shape params → (1 ≤ length (secrets_in checked shape params first_round)) × (length (secrets_in checked shape params first_round) ≤ 256) }
 {}
 
 /// A key frame of a first round has as many bytes as the plan tells, whichever words were drawn.
 pub fn key_frames_are_as_long_as_planned()
-    ensures { (e : Meaning) (p : TheProvider) (checked : TheChecked) (shape : ShapeParts) (params words bytes : List ℕ) → IsAsked checked shape params
+    ensures { (e : Meaning) (p : TheProvider) (checked : TheChecked) (shape : ShapeParts) (params words bytes : List ℕ) → IsWellPut checked shape params
         → KeyFrameOf bytes (key_frame e p checked shape params words) → length bytes ≡ round_length checked shape }
 {}
 
@@ -61,16 +61,16 @@ pub fn params_are_few()
 
 /// The key frames and the note of a first round have values that may be written, whichever words were drawn.
 pub fn round_may_be_written()
-    ensures frame { (e : Meaning) (p : TheProvider) (checked : TheChecked) (shape : ShapeParts) (params words : List ℕ) → IsAsked checked shape params → FrameAllowed (key_frame e p checked shape params words) }
-    ensures note { (e : Meaning) (checked : TheChecked) (shape : ShapeParts) (params words : List ℕ) → IsAsked checked shape params → length params ≤ 255 → NoteAllowed (note e checked shape params words) }
+    ensures frame { (e : Meaning) (p : TheProvider) (checked : TheChecked) (shape : ShapeParts) (params words : List ℕ) → IsWellPut checked shape params → FrameAllowed (key_frame e p checked shape params words) }
+    ensures note { (e : Meaning) (checked : TheChecked) (shape : ShapeParts) (params words : List ℕ) → IsWellPut checked shape params → length params ≤ 255 → NoteAllowed (note e checked shape params words) }
 {}
 
 /// The bytes of a first round are those of its key frames and of its note, where the expander gives seeds and the words
 /// are words.
 pub fn round_is_spelled()
-    ensures frame { (e : Meaning) → GivesSeeds e → (p : TheProvider) (checked : TheChecked) (shape : ShapeParts) (params words : List ℕ) → IsAsked checked shape params → AllByRecursion (λ w. w < 2 ^ 64) words
+    ensures frame { (e : Meaning) → GivesSeeds e → (p : TheProvider) (checked : TheChecked) (shape : ShapeParts) (params words : List ℕ) → IsWellPut checked shape params → AllByRecursion (λ w. w < 2 ^ 64) words
         → KeyFrameOf (key_bytes e p checked shape params words) (key_frame e p checked shape params words) }
-    ensures note { (e : Meaning) (checked : TheChecked) (shape : ShapeParts) (params words : List ℕ) → IsAsked checked shape params → length params ≤ 255 → AllByRecursion (λ w. w < 2 ^ 64) words
+    ensures note { (e : Meaning) (checked : TheChecked) (shape : ShapeParts) (params words : List ℕ) → IsWellPut checked shape params → length params ≤ 255 → AllByRecursion (λ w. w < 2 ^ 64) words
         → NoteOf (note_bytes e checked shape params words) (note e checked shape params words) }
 {}
 
@@ -88,7 +88,7 @@ pub fn spelled_frames_are_read()
 
 /// What a provider answers to its key frame of a first round is the spelling of an answer frame, where the plan is built.
 pub fn answers_are_spelled()
-    ensures { (e : Meaning) (p : TheProvider) (checked : TheChecked) (table : TableParts) (params drawn : List ℕ) → IsTable table → IsAsked checked table.shape params → IsBuilt checked table.shape.schema.columns → AllByRecursion (λ w. w < 2 ^ 64) drawn
+    ensures { (e : Meaning) (p : TheProvider) (checked : TheChecked) (table : TableParts) (params drawn : List ℕ) → IsTable table → IsWellPut checked table.shape params → IsBuilt checked table.shape.schema.columns → AllByRecursion (λ w. w < 2 ^ 64) drawn
         → AnswerOf (round_answer e p checked table params drawn) (answer_frame e p (key_bytes e p checked table.shape params drawn) (key_frame e p checked table.shape params drawn) checked table) }
 {}
 

@@ -1,6 +1,8 @@
-//! What a client makes of two answers: their words, which add up to a cell, and the answer that the cell stands for.
+//! What a client makes of two answers: their words, which add up to cells, and the answer that the merge of the cells stands
+//! for.
 #![tactic(auto)]
 
+mod checking;
 mod combining;
 mod finals;
 pub mod laws;

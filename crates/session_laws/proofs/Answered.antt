@@ -18,7 +18,7 @@ use Rattle.key_frames.specs.Frames.{KeyFrameOf}
 use Rattle.key_frames.proofs.FrameLaws.{frame_read}
 use Rattle.session_model.specs.Answers.{answer_bytes}
 use Rattle.session_model.specs.Sessions.{key_frame}
-use Rattle.client_rounds.specs.Asked.{IsAsked}
+use Rattle.client_rounds.specs.WellPut.{IsWellPut}
 use Rattle.provider_core.specs.Answering.{answered}
 use Rattle.provider_core.specs.Asking.{asked_in, frame_in, if_own, if_same_text, keys_placed, query_in}
 use Rattle.sum_bounds.specs.Bounds.{sums_bounded}
@@ -51,7 +51,7 @@ answered_is : (e : Meaning) (p : Provider) (bytes : List ℕ) (table : TablePart
 unfolding answered
 answered_is e p bytes table f checked asked = rw asked refl
 
-pub own_answered : (e : Meaning) (p : Provider) (checked : Checked) (table : TableParts) (params words bytes : List ℕ) → IsAsked checked table.shape params → IsBuilt checked table.shape.schema.columns
+pub own_answered : (e : Meaning) (p : Provider) (checked : Checked) (table : TableParts) (params words bytes : List ℕ) → IsWellPut checked table.shape params → IsBuilt checked table.shape.schema.columns
     → sums_bounded table checked.spec.items ≡ Ok tt → checked_in table.shape.schema (canonical_text checked.query) ≡ Ok checked → KeyFrameOf bytes (key_frame e p checked table.shape params words)
     → answered e p bytes table ≡ Ok (answer_bytes e p bytes (key_frame e p checked table.shape params words) checked table)
 own_answered e p checked table params words bytes asked built bounded canonical of =

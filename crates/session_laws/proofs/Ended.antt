@@ -14,7 +14,7 @@ use Rattle.answer_frames.specs.Spelling.{AnswerOf}
 use Rattle.private_plan.specs.Plans.{IsBuilt}
 use Rattle.session_model.specs.Answers.{answer_bytes, answer_frame}
 use Rattle.session_model.specs.Sessions.{key_frame, key_bytes, round_answer}
-use Rattle.client_rounds.specs.Asked.{IsAsked}
+use Rattle.client_rounds.specs.WellPut.{IsWellPut}
 use Rattle.client_rounds.specs.Finishing.{finished}
 use Rattle.client_rounds.proofs.Ends.{answer_spelled, ends, ends_exchanged}
 use Rattle.provider_core.specs.declared.fault.ProviderFault.{ProviderFault}
@@ -27,7 +27,7 @@ one_answer : (r : Result (List ℕ) ProviderFault) (x y : List ℕ) → r ≡ Ok
 one_answer r x y a b = cc
 
 -- an answer to bytes that spell a key frame is spelled
-pub own_spelled : (e : Meaning) (checked : Checked) (table : TableParts) (params drawn : List ℕ) → IsTable table → (p : Provider) (bytes : List ℕ) → IsAsked checked table.shape params → IsBuilt checked table.shape.schema.columns → KeyFrameOf bytes (key_frame e p checked table.shape params drawn)
+pub own_spelled : (e : Meaning) (checked : Checked) (table : TableParts) (params drawn : List ℕ) → IsTable table → (p : Provider) (bytes : List ℕ) → IsWellPut checked table.shape params → IsBuilt checked table.shape.schema.columns → KeyFrameOf bytes (key_frame e p checked table.shape params drawn)
     → AnswerOf (answer_bytes e p bytes (key_frame e p checked table.shape params drawn) checked table) (answer_frame e p bytes (key_frame e p checked table.shape params drawn) checked table)
 unfolding key_bytes
 own_spelled e checked table params drawn valid p bytes asked built of =
@@ -35,7 +35,7 @@ own_spelled e checked table params drawn valid p bytes asked built of =
     (answer_spelled e checked table params drawn p valid asked.accepted asked.form.form asked.known built of.typed.session)
 
 -- what is asked in a session
-pub session_asked : (s : Session) → IsSession s → IsAsked s.checked s.table.shape s.params
+pub session_asked : (s : Session) → IsSession s → IsWellPut s.checked s.table.shape s.params
 session_asked s is =
     record {
       valid = is.table.shape;

@@ -18,7 +18,7 @@ use Rattle.key_frames.specs.declared.keys.Key.{Key}
 use Rattle.key_frames.specs.Trees.{key_of, key_list}
 use Rattle.key_frames.proofs.TreeLaws.{depth_same}
 use Rattle.session_model.specs.Sessions.{key_frame, session_roots}
-use Rattle.client_rounds.specs.Asked.{IsAsked}
+use Rattle.client_rounds.specs.WellPut.{IsWellPut}
 use Rattle.client_rounds.proofs.Ends.{length-roots_of}
 use Rattle.provider_core.specs.Asking.{keys_placed}
 use Rattle.provider_core.specs.Layouts.{is_key_of, layout_differs}
@@ -55,7 +55,7 @@ placed_is table frame checked built none =
     rw (built, none) refl
 
 -- the keys of a round lie as its plan asks
-pub round_placed : (e : Meaning) (p : Provider) (checked : Checked) (table : TableParts) (params words : List ℕ) → IsAsked checked table.shape params → IsBuilt checked table.shape.schema.columns
+pub round_placed : (e : Meaning) (p : Provider) (checked : Checked) (table : TableParts) (params words : List ℕ) → IsWellPut checked table.shape params → IsBuilt checked table.shape.schema.columns
     → keys_placed table (key_frame e p checked table.shape params words) checked ≡ Ok tt
 round_placed e p checked table params words asked built =
     let secrets = secrets_in checked table.shape params first_round in

@@ -12,7 +12,7 @@ ghost use Rattle.key_frames.specs.Frames.{KeyFrameOf};
 ghost use Rattle.answer_frames.specs.Spelling.{AnswerOf};
 ghost use Rattle.session_model.specs.Answers.{answer_bytes, answer_frame};
 ghost use Rattle.session_model.specs.Sessions.{key_frame};
-ghost use Rattle.client_rounds.specs.Asked.{IsAsked};
+ghost use Rattle.client_rounds.specs.WellPut.{IsWellPut};
 ghost use Rattle.client_rounds.specs.Expanding.{GivesSeeds};
 ghost use Rattle.client_rounds.specs.Finishing.{finished};
 ghost use Rattle.provider_core.specs.Answering.{answered};
@@ -26,10 +26,10 @@ use judged_queries::laws::canonical_text_is_accepted;
 /// bounds: for every expander, accepted query whose plan is built, parameters and drawn words, nothing refuses the
 /// bytes of the frame, and what is answered is the spelling of an answer frame.
 pub fn own_keys_are_answered()
-    ensures answered { (e : Meaning) (p : Provider) (checked : Checked) (table : TableParts) (params words bytes : List ℕ) → IsTable table → IsAsked checked table.shape params
+    ensures answered { (e : Meaning) (p : Provider) (checked : Checked) (table : TableParts) (params words bytes : List ℕ) → IsTable table → IsWellPut checked table.shape params
         → IsBuilt checked table.shape.schema.columns → sums_bounded table checked.spec.items ≡ Ok tt → KeyFrameOf bytes (key_frame e p checked table.shape params words)
         → answered e p bytes table ≡ Ok (answer_bytes e p bytes (key_frame e p checked table.shape params words) checked table) }
-    ensures spelled { (e : Meaning) (p : Provider) (checked : Checked) (table : TableParts) (params words bytes : List ℕ) → IsTable table → IsAsked checked table.shape params
+    ensures spelled { (e : Meaning) (p : Provider) (checked : Checked) (table : TableParts) (params words bytes : List ℕ) → IsTable table → IsWellPut checked table.shape params
         → IsBuilt checked table.shape.schema.columns → KeyFrameOf bytes (key_frame e p checked table.shape params words)
         → AnswerOf (answer_bytes e p bytes (key_frame e p checked table.shape params words) checked table) (answer_frame e p bytes (key_frame e p checked table.shape params words) checked table) }
 {

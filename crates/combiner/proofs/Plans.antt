@@ -1,42 +1,21 @@
--- Cells of counts, sums and means.
-use Rattle.std.proofs.Common.{◌≡◌, ℕ, zero, suc, ◌≤◌, true, false, Bool, cond, leb, List, [], ◌∷◌, take, drop, get_or, Option, None, Some, refl, arith}
-use Rattle.std.specs.Prelude.{All, IsTrue, slice_get}
+-- How many cells come back, and how wide they are.
+use Rattle.std.proofs.Common.{◌≡◌, ℕ, ◌*◌, ◌<◌, ◌≤◌, Bool, true, List, length, [], get_or, Option, None, Some, slice_get, refl, arith, IsTrue}
+use Rattle.std.specs.Prelude.{All}
 use Rattle.std.proofs.lemmas.Bool.Decides.{nat_tests}
 use Rattle.std.proofs.lemmas.Option.{slice_get-get_or}
-use Rattle.std.specs.List.{list_all}
 use Rattle.spl_values.specs.Kinds.{is_kind}
 use Rattle.spl_values.specs.Shapes.{ColumnParts, IsColumn, ShapeParts}
 use Rattle.spl_values.specs.declared.kinds.ColumnType.{ColumnType}
 use Rattle.spl_values.specs.declared.kinds.ColumnType.TheVariants.{Uint, Text, Enum}
-use Rattle.cell_merge.specs.declared.spec.CellItem.{CellItem}
-use Rattle.cell_merge.specs.declared.spec.CellItem.TheVariants.{Count, Sum, Avg, Max, Min, TopK}
 use Rattle.cell_merge.specs.declared.spec.CellSpec.{CellSpec}
 use Rattle.cell_merge.specs.Cells.{block_width, blocks, cell_width}
 use Rattle.cell_merge.specs.TableRows.{GroupsLabels, HasLabels, SpecFits, kind_in}
-use Rattle.clear_sql.specs.CellAnswers.{ItemsRead, BlocksRead}
 use Rattle.clear_sql.proofs.CellAnswers.{block_small}
 use Rattle.private_plan.specs.declared.plans.PlanKind.TheVariants as kind
 use Rattle.private_plan.specs.declared.plans.PlanKind.{PlanKind}
-use Rattle.private_plan.specs.Plans.{is_sum, kind_for, kind_of, last_bits, plan_for, plan_of}
+use Rattle.private_plan.specs.Plans.{brings_cells, kind_of, last_bits, plan_for, plan_of}
 use Rattle.query_reader.specs.declared.checked.Checked.{Checked}
 use Rattle.combiner.specs.Finals.{last_words}
-
-items_read : (columns : List ColumnParts) (items : List CellItem) (words : List ℕ) → list_all is_sum items ≡ true → ItemsRead columns items words
-unfolding ItemsRead
-items_read columns [] words sums = tt
-items_read columns (Count ∷ is) words sums = (tt, items_read columns is (drop 0 words) sums)
-items_read columns (Sum c ∷ is) words sums = (tt, items_read columns is (drop 1 words) sums)
-items_read columns (Avg c ∷ is) words sums = (tt, items_read columns is (drop 1 words) sums)
-items_read columns (Max c ∷ is) words sums = absurd cc
-items_read columns (Min c ∷ is) words sums = absurd cc
-items_read columns (TopK k s h ∷ is) words sums = absurd cc
-
--- whatever words a cell of sums holds, it can be read
-pub sums_read : (columns : List ColumnParts) (items : List CellItem) (n : ℕ) (words : List ℕ) → list_all is_sum items ≡ true → BlocksRead columns items n words
-unfolding BlocksRead
-sums_read columns items zero words sums = tt
-sums_read columns items (suc n) words sums =
-    (items_read columns items (drop 1 (take (block_width items) words)) sums, sums_read columns items n (drop (block_width items) words) sums)
 
 -- ---- how many words a cell has
 
@@ -57,19 +36,13 @@ pub block_fits : (spec : CellSpec) (columns : List ColumnParts) → All IsColumn
 block_fits spec columns each fits =
     block_small (blocks spec.group spec.labels) (block_width spec.items) (cell_width spec) (blocks_some columns spec.labels spec.group each fits.grouped) refl
 
--- ---- plans
+pub cell_some : (spec : CellSpec) (columns : List ColumnParts) → All IsColumn columns → SpecFits spec columns → 0 < cell_width spec
+cell_some spec columns each fits = omega (arith, block_fits spec columns each fits)
 
--- the items of a plan of sums are sums
-pub sums_of_kind : (sums range : Bool) (w : ℕ) → kind_for sums range w ≡ kind.Sum → sums ≡ true
-sums_of_kind true range w e = refl
-sums_of_kind false true w e = of_width (leb w 16) e where
-  of_width : (b : Bool) → cond b kind.Aligned kind.Position ≡ kind.Sum → false ≡ true
-  of_width true e = absurd cc
-  of_width false e = absurd cc
-sums_of_kind false false w e = absurd cc
+-- ---- how many cells come back
 
--- so the words of the last round of such a plan are those of a cell
-pub words_of_sums : (k : PlanKind) (range : Bool) (slots n w width rows : ℕ) → k ≡ kind.Sum → last_words (plan_for k range slots n w width rows) ≡ width
+-- the words of the last round of a plan of sums are those of one cell
+words_of_sums : (k : PlanKind) (range : Bool) (slots n w width rows : ℕ) → k ≡ kind.Sum → last_words (plan_for k range slots n w width rows) ≡ width
 words_of_sums kind.Sum range slots n w width rows e = refl
 words_of_sums kind.Point range slots n w width rows e = absurd cc
 words_of_sums kind.Aligned range slots n w width rows e = absurd cc
@@ -78,3 +51,14 @@ words_of_sums kind.Position range slots n w width rows e = absurd cc
 pub words_of_plan : (checked : Checked) (shape : ShapeParts) → (plan_of checked shape).kind ≡ kind.Sum → last_words (plan_of checked shape) ≡ cell_width checked.spec
 words_of_plan checked shape e =
     words_of_sums (kind_of checked shape.schema.columns) checked.range checked.branches checked.bits (last_bits shape.schema.columns checked.columns) (cell_width checked.spec) shape.rows e
+
+-- where each tree brings a cell, they are those of as many cells
+words_of_trees : (k : PlanKind) (range : Bool) (slots n w width rows : ℕ) → brings_cells k ≡ true → last_words (plan_for k range slots n w width rows) ≡ length (plan_for k range slots n w width rows).first * width
+words_of_trees kind.Sum range slots n w width rows e = absurd cc
+words_of_trees kind.Point range slots n w width rows e = refl
+words_of_trees kind.Aligned range slots n w width rows e = refl
+words_of_trees kind.Position range slots n w width rows e = absurd cc
+
+pub words_of_cells : (checked : Checked) (shape : ShapeParts) → brings_cells (plan_of checked shape).kind ≡ true → last_words (plan_of checked shape) ≡ length (plan_of checked shape).first * cell_width checked.spec
+words_of_cells checked shape e =
+    words_of_trees (kind_of checked shape.schema.columns) checked.range checked.branches checked.bits (last_bits shape.schema.columns checked.columns) (cell_width checked.spec) shape.rows e
