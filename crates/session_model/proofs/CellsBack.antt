@@ -1,28 +1,26 @@
 -- The words of both answers add to the words of the cells that come back.
-use Rattle.std.proofs.Common.{◌≡◌, ℕ, ◌+◌, ◌-◌, ◌*◌, ◌/◌, ◌^◌, ◌<◌, ◌≤◌, Bool, true, ◌&&◌, eqb, List, [], ◌∷◌, length, take, drop, inl, inr, refl, sym, ap, ap₂, subst, ◌∙◌, arith}
+use Rattle.std.proofs.Common.{◌≡◌, ℕ, ◌+◌, ◌*◌, ◌<◌, true, List, [], ◌∷◌, length, take, drop, inl, inr, refl, sym, ap, ap₂, subst, ◌∙◌, arith}
 use Rattle.std.specs.Prelude.{map, slice_index}
-use Rattle.std.specs.List.{AllByRecursion, filter, flat_map, list_all, range_with_len}
+use Rattle.std.specs.List.{flat_map, list_all, range_with_len}
 use Rattle.std.proofs.Math.Nat.{mod-eq_of_lt}
 use Rattle.std.proofs.lemmas.List.{append-nil, length-map}
 use Rattle.spl_words.specs.Words.{plus}
 use Rattle.spl_words.specs.Folds.{fold_word, fold_words}
-use Rattle.spl_words.specs.Secrets.{Secret, secret_tree, secret_value}
+use Rattle.spl_words.specs.Secrets.{Secret, secret_tree}
 use Rattle.spl_words.specs.declared.provider.Provider.{Provider}
 use Rattle.spl_words.specs.declared.provider.Provider.TheVariants.{Zero, One}
+use Rattle.spl_values.specs.Shapes.{IsSchema}
 use Rattle.spl_values.specs.Tables.{TableParts, IsTable}
 use Rattle.cell_merge.specs.Rows.{Row}
-use Rattle.cell_merge.specs.Cells.{Addends, cell, cell_width}
-use Rattle.cell_merge.specs.TableRows.{adds_in, rows_of}
-use Rattle.cell_merge.proofs.Lists.{length-filter-le}
+use Rattle.cell_merge.specs.Cells.{cell, cell_width}
+use Rattle.cell_merge.specs.TableRows.{adds_in}
 use Rattle.seed_expansion.specs.Expanders.{Meaning, IsPure}
 use Rattle.query_grammar.specs.Canonical.{IsQuery}
 use Rattle.query_reader.specs.declared.checked.Checked.{Checked}
 use Rattle.query_reader.specs.Accepted.{IsCheckedFor}
-use Rattle.query_reader.specs.Matching.{is_kept, matching_rows, some_branch_holds}
+use Rattle.query_reader.specs.Matching.{matching_rows}
 use Rattle.query_reader.specs.Params.{AreParamsFor}
-use Rattle.query_reader.proofs.Known.{checked_fits}
-use Rattle.clear_sql.proofs.MatchingCells.{filter_filter, length-rows_of}
-use Rattle.count_sum.specs.SumPairs.{joined_key, sum_pairs}
+use Rattle.count_sum.specs.SumPairs.{sum_pairs}
 use Rattle.key_frames.specs.declared.keys.Key.{Key}
 use Rattle.key_frames.specs.Trees.{key_list, key_shares, key_tree}
 use Rattle.key_frames.proofs.TreeLaws.{trees_same}
@@ -34,87 +32,16 @@ use Rattle.private_plan.proofs.Accepted.{secrets_laid}
 use Rattle.private_plan.proofs.FirstTrees.{first_deep}
 use Rattle.private_plan.proofs.Telling.{are_points}
 use Rattle.session_model.specs.Answers.{answer_words, entries_of, entry_width, words_of_fold}
-use Rattle.session_model.specs.Cells.{ArePicked, cells_back, each_told, first_answer, rows_back, rows_for, told_rows}
+use Rattle.session_model.specs.Cells.{cells_back, each_told, first_answer, rows_back, rows_for, told_rows}
 use Rattle.session_model.proofs.Answers.{answers_add, one_fold}
+use Rattle.session_model.proofs.BackRows.{cells_small, picked_small, sum_rows, told_back, told_picked}
 use Rattle.session_model.proofs.CellSums.{length-cell, same_lengths, word_at, wordwise}
-use Rattle.session_model.proofs.CellWords.{AreWords, cell_small, filter_few, rows_are, word_small, words_both}
+use Rattle.session_model.proofs.CellWords.{AreWords, word_small, words_both}
 use Rattle.session_model.proofs.KeptRows.{kept_below}
 use Rattle.session_model.proofs.Plans.{built_kinds, cell_folds, folds_are, points_deep, sums_of_kind}
 use Rattle.session_model.proofs.TreeWords.{both_words, by_tree, length-tree_words, length-words, tree_words, trees_add}
 
--- ---- rows
-
-told_picked : (checked : Checked) (t : TableParts) (s : Secret) → ArePicked t (told_rows checked t s)
-told_picked checked t s =
-    let test : Row → Bool = λ r. eqb (secret_value s (joined_key checked t r / 2 ^ (checked.bits - s.depth))) 1 in
-    ((λ r. is_kept checked.public r && test r), filter_filter (is_kept checked.public) test (rows_of t))
-
-each_picked : (checked : Checked) (t : TableParts) (ss : List Secret) → AllByRecursion (ArePicked t) (map (told_rows checked t) ss)
-each_picked checked t [] = tt
-each_picked checked t (s ∷ ss) = (told_picked checked t s, each_picked checked t ss)
-
--- each cell that comes back is one of rows of the table that pass a test
-pub back_picked : (checked : Checked) (t : TableParts) (params : List ℕ) → AllByRecursion (ArePicked t) (rows_back checked t params)
-unfolding rows_back
-back_picked checked t params = by_kind (kind_of checked t.shape.schema.columns)
-  where
-    by_kind : (k : PlanKind) → AllByRecursion (ArePicked t) (rows_for k checked t params)
-    by_kind kind.Sum =
-        let holds = some_branch_holds checked.branches checked.columns checked.range params in
-        (((λ r. is_kept checked.public r && holds r), filter_filter (is_kept checked.public) holds (rows_of t)), tt)
-    by_kind kind.Point = each_picked checked t _
-    by_kind kind.Aligned = each_picked checked t _
-    by_kind kind.Position = tt
-
-picked_few : (t : TableParts) (rows : List Row) → ArePicked t rows → length rows ≤ length t.rows
-picked_few t rows is =
-    let short = length-filter-le is.0 (rows_of t) in
-    let count = length-rows_of t in
-    let same = ap length is.1 in
-    omega (arith, short, count, same)
-
-pub each_few : (t : TableParts) (back : List (List Row)) → AllByRecursion (ArePicked t) back → AllByRecursion (λ rows. length rows ≤ length t.rows) back
-each_few t [] each = tt
-each_few t (rows ∷ back) each = (picked_few t rows each.0, each_few t back each.1)
-
--- ---- their cells
-
-module _ (checked : Checked) (t : TableParts) (valid : IsTable t) (accepted : IsCheckedFor checked t.shape.schema) where
-  abbrev adds : Addends
-  adds = adds_in t.shape.schema.columns
-
-  picked_small : (rows : List Row) → ArePicked t rows → AreWords (cell adds checked.spec rows)
-  picked_small rows is =
-      let columns = t.shape.schema.columns in
-      let fits = checked_fits checked t.shape.schema accepted in
-      let count = length-rows_of t in
-      let few : length (rows_of t) < 2 ^ 64 = omega (arith, count, valid.count, valid.shape.few) in
-      subst (λ l. AreWords (cell adds checked.spec l)) (sym is.1) (cell_small columns adds checked.spec (filter is.0 (rows_of t)) fits.kept (filter_few columns is.0 (rows_of t) (rows_are t valid, few)))
-
-  each_small : (back : List (List Row)) → AllByRecursion (ArePicked t) back → AreWords (flat_map (cell adds checked.spec) back)
-  each_small [] each = tt
-  each_small (rows ∷ back) each = words_both (cell adds checked.spec rows) (flat_map (cell adds checked.spec) back) (picked_small rows each.0) (each_small back each.1)
-
-  pub cells_small : (params : List ℕ) → AreWords (cells_back checked t params)
-  cells_small params = each_small (rows_back checked t params) (back_picked checked t params)
-
--- what comes back of a sum are the matching rows
-pub sum_rows : (checked : Checked) (t : TableParts) (params : List ℕ) → kind_of checked t.shape.schema.columns ≡ kind.Sum → rows_back checked t params ≡ matching_rows checked params t ∷ []
-unfolding rows_back
-sum_rows checked t params sum = ap (λ k. rows_for k checked t params) sum
-
--- and else those that each secret tells
-pub told_back : (checked : Checked) (t : TableParts) (params : List ℕ) → brings_cells (kind_of checked t.shape.schema.columns) ≡ true → rows_back checked t params ≡ each_told checked t params
-unfolding rows_back
-told_back checked t params brings = by_kind (kind_of checked t.shape.schema.columns) brings
-  where
-    by_kind : (k : PlanKind) → brings_cells k ≡ true → rows_for k checked t params ≡ each_told checked t params
-    by_kind kind.Sum brings = absurd cc
-    by_kind kind.Point brings = refl
-    by_kind kind.Aligned brings = refl
-    by_kind kind.Position brings = absurd cc
-
--- ---- answers
+-- ---- words
 
 fold_words_small : (f : ℕ → ℕ) (entries : List (ℕ × List ℕ)) (ks : List ℕ) → AreWords (map (fold_word f entries) ks)
 fold_words_small f entries [] = tt
@@ -128,6 +55,16 @@ folds_small e p tree keys checked t (f ∷ folds) =
 pub answers_small : (e : Meaning) (p : Provider) (round : ℕ) (keys : List Key) (checked : Checked) (t : TableParts) → AreWords (answer_words e p round keys checked t)
 unfolding answer_words
 answers_small e p round keys checked t = let plan = plan_of checked t.shape in folds_small e p (first_tree plan round) keys checked t (folds_in plan round)
+
+-- ---- answers
+
+-- the words of an answer of trees that bring a cell each are those of a fold for each key
+pub folds_answer : (e : Meaning) (p : Provider) (keys : List Key) (checked : Checked) (t : TableParts) → IsSchema t.shape.schema → IsCheckedFor checked t.shape.schema → IsQuery checked.query
+    → brings_cells (plan_of checked t.shape).kind ≡ true → answer_words e p 1 keys checked t ≡ flat_map (words_of_fold e p 0 keys checked t) (cell_folds checked.bits (plan_of checked t.shape).first)
+unfolding answer_words
+folds_answer e p keys checked t schema accepted form brings =
+    let plan = plan_of checked t.shape in
+    ap (λ (fs : List Fold). flat_map (words_of_fold e p 0 keys checked t) fs) (folds_are checked.bits plan.kind plan.first brings (first_deep checked t.shape [] accepted form schema) (points_deep checked t.shape))
 
 module _ (checked : Checked) (t : TableParts) (params : List ℕ) (roots : List (ℕ × ℕ)) (valid : IsTable t) (accepted : IsCheckedFor checked t.shape.schema) (form : IsQuery checked.query)
     (known : AreParamsFor checked t.shape.schema params) (same : length roots ≡ length (secrets_in checked t.shape params first_round)) where
@@ -152,13 +89,10 @@ module _ (checked : Checked) (t : TableParts) (params : List ℕ) (roots : List 
 
   -- an answer of trees that bring a cell each
   tree_answer : (e : Meaning) (p : Provider) → brings_cells the_kind ≡ true → first_answer e p checked t params roots ≡ tree_words checked t e p 0 asked roots
-  unfolding answer_words
   tree_answer e p brings =
       let keys = key_list e p 0 asked roots in
-      let trees = (plan_of checked t.shape).first in
-      let first = first_deep checked t.shape params accepted form valid.shape.schema in
-      ap (λ (fs : List Fold). flat_map (words_of_fold e p 0 keys checked t) fs) (folds_are checked.bits the_kind trees brings first (points_deep checked t.shape) ∙ ap (λ ts. cell_folds checked.bits ts) (sym laid))
-      ∙ by_tree checked t e p keys 0 asked roots same refl
+      folds_answer e p keys checked t valid.shape.schema accepted form brings
+      ∙ (ap (λ ts. flat_map (words_of_fold e p 0 keys checked t) (cell_folds checked.bits ts)) (sym laid) ∙ by_tree checked t e p keys 0 asked roots same refl)
 
   -- ---- how long they are
 

@@ -26,7 +26,7 @@ use Rattle.private_plan.specs.Slots.{IsPointOf}
 use Rattle.private_plan.proofs.Telling.{are_points, tell_rows}
 use Rattle.session_model.specs.Cells.{each_told, rows_back, told_rows}
 use Rattle.session_model.proofs.CellSums.{all_right}
-use Rattle.session_model.proofs.CellsBack.{sum_rows, told_back}
+use Rattle.session_model.proofs.BackRows.{sum_rows, told_back}
 use Rattle.session_model.proofs.KeptRows.{each_kept, few_kept, kept_apart}
 use Rattle.session_model.proofs.Plans.{built_kinds}
 use Rattle.session_model.proofs.TableRows.{row_codes, row_key_same}

@@ -8,5 +8,6 @@ pub mod Told
 pub mod CellWords
 pub mod Plans
 pub mod TreeWords
+pub mod BackRows
 pub mod CellsBack
 pub mod CellsMerge

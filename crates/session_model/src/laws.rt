@@ -1,12 +1,13 @@
 //! Laws of sessions. Each function does nothing: its clauses are the laws.
-ghost use Rattle.std.specs.Prelude.{◌≡◌, ℕ, ◌*◌, ◌%◌, ◌^◌, ◌<◌, ◌≤◌, Bool, true, List, [], ◌∷◌, length, map, sum_by, slice_index, if◌then◌else◌};
-ghost use Rattle.std.specs.List.{AllByRecursion, filter, list_all};
+ghost use Rattle.std.specs.Prelude.{◌≡◌, ℕ, ◌-◌, ◌*◌, ◌%◌, ◌^◌, ◌<◌, ◌≤◌, Bool, true, List, [], ◌∷◌, length, map, sum_by, slice_index, if◌then◌else◌};
+ghost use Rattle.std.specs.List.{AllByRecursion, filter, flat_map, list_all};
 ghost use Rattle.spl_words.specs.Words.{plus};
 ghost use Rattle.spl_words.specs.Folds.{fold_word, fold_words};
 ghost use Rattle.spl_words.specs.Secrets.{Secret, secret_value};
 ghost use Rattle.spl_words.specs.declared.provider.Provider.{Provider};
 ghost use Rattle.spl_words.specs.declared.provider.Provider.TheVariants.{Zero, One};
 ghost use Rattle.spl_words.specs.declared.secret.TreeKind.TheVariants.{Point};
+ghost use Rattle.spl_values.specs.Shapes.{IsSchema};
 ghost use Rattle.spl_values.specs.Tables.{TableParts, IsTable};
 ghost use Rattle.seed_expansion.specs.Expanders.{Meaning, IsPure};
 ghost use Rattle.cell_merge.specs.Rows.{Row, Apart};
@@ -23,9 +24,9 @@ ghost use Rattle.count_sum.specs.SumPairs.{sum_pairs};
 ghost use Rattle.key_frames.specs.declared.keys.Key.{Key};
 ghost use Rattle.key_frames.specs.Trees.{key_list, key_shares};
 ghost use Rattle.private_plan.specs.declared.plans.PlanKind.TheVariants as kind;
-ghost use Rattle.private_plan.specs.Plans.{IsBuilt, is_sum, plan_of};
-ghost use Rattle.private_plan.specs.Rounds.{first_round, secrets_in};
-ghost use Rattle.session_model.specs.Answers.{answer_words};
+ghost use Rattle.private_plan.specs.Plans.{IsBuilt, brings_cells, is_sum, plan_of};
+ghost use Rattle.private_plan.specs.Rounds.{by_key, each_tree, first_round, secrets_in};
+ghost use Rattle.session_model.specs.Answers.{answer_words, words_of_fold};
 ghost use Rattle.session_model.specs.Cells.{ArePicked, cells_back, first_answer, rows_back};
 
 /// Where all items are counts, sums and means, the cell of the rows that pass a test is, word by word
@@ -39,6 +40,14 @@ pub fn cells_of_rows_add()
 pub fn sums_have_one_fold()
     ensures { (e : Meaning) (p : Provider) (round : ℕ) (keys : List Key) (checked : Checked) (table : TableParts) → (plan_of checked table.shape).kind ≡ kind.Sum → round ≡ 1 → length keys ≡ length (plan_of checked table.shape).first
         → answer_words e p round keys checked table ≡ fold_words (key_shares e p 0 keys) (sum_pairs checked table) (cell_width checked.spec) }
+{}
+
+/// Where each tree of the first round brings a cell, the words of an answer are those of one fold for each key over the
+/// cells by joined key without as many of its lowest bits as the tree is less deep than it.
+pub fn cells_have_a_fold_each()
+    ensures { (e : Meaning) (p : Provider) (keys : List Key) (checked : Checked) (table : TableParts) → IsSchema table.shape.schema → IsCheckedFor checked table.shape.schema → IsQuery checked.query
+        → brings_cells (plan_of checked table.shape).kind ≡ true
+        → answer_words e p 1 keys checked table ≡ flat_map (words_of_fold e p 0 keys checked table) (each_tree (λ tree. by_key (checked.bits - tree.depth)) 0 (plan_of checked table.shape).first) }
 {}
 
 /// The answers of both providers to an accepted query of counts, sums and means add, word by word and

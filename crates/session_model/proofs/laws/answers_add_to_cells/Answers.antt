@@ -1,4 +1,5 @@
-use Rattle.session_model.proofs.CellsBack.{answer_length, answers_small, cells_small, word_added, words_planned}
+use Rattle.session_model.proofs.BackRows.{cells_small}
+use Rattle.session_model.proofs.CellsBack.{answer_length, answers_small, word_added, words_planned}
 use Rattle.session_model.proofs.laws.answers_add_to_cells.Goals as goal
 
 pub returns : goal.returns

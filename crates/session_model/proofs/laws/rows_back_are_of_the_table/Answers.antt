@@ -1,5 +1,5 @@
 use Rattle.session_model.specs.Cells.{rows_back}
-use Rattle.session_model.proofs.CellsBack.{back_picked, each_few}
+use Rattle.session_model.proofs.BackRows.{back_picked, each_few}
 use Rattle.session_model.proofs.laws.rows_back_are_of_the_table.Goals as goal
 
 pub returns : goal.returns
