@@ -105,14 +105,51 @@ def session(query, shape, codes, secrets, drawn):
     return note, frames, keys
 
 
-def answer(provider, name, frame, keys, table, rows):
-    """The answer frame over rows of (joined key, cell); table is the canonical shape text and then the table."""
+def summed(provider, keys, rows):
+    """The words of one cell over rows of (joined key, cell): each row's cell times the shares of all keys."""
     words = [0] * len(rows[0][1])
     for x, cell in rows:
         weight = sum(share(provider, key, x) for key in keys)
         words = [word + weight * entry & WORD for word, entry in zip(words, cell)]
+    return words
+
+
+def by_cells(provider, keys, rows, cell):
+    """The words of one cell for each key over rows of (joined key, row): a key less deep than the first one is of a higher
+    level, where rows are gathered by the joined key without as many of its lowest bits; `cell` makes a cell of rows."""
+    words = []
+    for key in keys:
+        level, gathered = keys[0][1] - key[1], {}
+        for x, row in rows:
+            gathered.setdefault(x >> level, []).append(row)
+        words += summed(provider, [key], [(x, cell(of_x)) for x, of_x in gathered.items()] or [(0, cell([]))])
+    return words
+
+
+def answer(provider, name, frame, words, table):
+    """The answer frame with these words; table is the canonical shape text and then the table."""
     front = b"SPLA\x01\x01" + bytes([provider]) + big(name, 16) + sha256(frame).digest() + sha256(table).digest()
     return sealed(front + big(len(words), 4) + b"".join(big(word, 8) for word in words))
+
+
+def cover(low, high, width):
+    """The aligned ranges (level, index) of an interval: those inside it that are of the highest level or whose parent isn't."""
+
+    def inside(level, index):
+        return low <= index << level and (index + 1 << level) - 1 <= high
+
+    levels = [(level, range(low >> level, (high >> level) + 1)) for level in range(width)]
+    return [(j, c) for j, indices in levels for c in indices if inside(j, c) and (j == width - 1 or not inside(j + 1, c // 2))]
+
+
+def cover_secrets(bits, width, interval):
+    """Two points for each level of an interval's cover, or of none."""
+    ranges = cover(*interval, width) if interval else []
+    secrets = []
+    for level in range(width):
+        indices = [c for j, c in ranges if j == level]
+        secrets += [(POINT, bits - level, c, 1) for c in indices] + [(POINT, bits - level, 0, 0)] * (2 - len(indices))
+    return secrets
 
 
 def flights(low, high):
@@ -132,7 +169,7 @@ def flights(low, high):
     note, frames, keys = session(query, shape, [place[b"SFO"], place[b"JFK"], low, high], secrets, range(1, 11))
     rows = [line.split(b",") for line in table.split()[1:]]
     rows = [(joined(origin, dest, int(price)), [1, int(price), int(price)]) for origin, dest, _, price in rows]
-    answers = [answer(p, 1 << 64 | 2, frames[p], keys[p], shape + table, rows) for p in (0, 1)]
+    answers = [answer(p, 1 << 64 | 2, frames[p], summed(p, keys[p], rows), shape + table) for p in (0, 1)]
     return {"note": note, "key0": frames[0], "key1": frames[1], "answer0": answers[0], "answer1": answers[1]}
 
 

@@ -6,3 +6,4 @@ pub mod Halves
 pub mod Levels
 pub mod Offsets
 pub mod Pushing
+pub mod TestedCells

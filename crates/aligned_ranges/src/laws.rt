@@ -1,11 +1,10 @@
 //! What covers are for.
-ghost use Rattle.std.specs.Prelude.{◌≡◌, ℕ, ◌/◌, ◌<◌, ◌≤◌, ◌^◌, ◌&&◌, nat_le, List, length, map, sum_by, if◌then◌else◌};
-ghost use Rattle.std.specs.List.{filter, list_any};
+ghost use Rattle.std.specs.Prelude.{◌≡◌, ℕ, ◌/◌, ◌<◌, ◌≤◌, ◌^◌, ◌&&◌, nat_le, Bool, List, length, map, sum_by, if◌then◌else◌};
+ghost use Rattle.std.specs.List.{AllByRecursion, filter, list_any};
 ghost use Rattle.cell_merge.specs.declared.spec.CellSpec.{CellSpec};
 ghost use Rattle.cell_merge.specs.Cells.{Addends, cell, merge_all};
 ghost use Rattle.cell_merge.specs.Rows.{Row, Apart};
 ghost use Rattle.aligned_ranges.specs.Covers.{cover, cover_level, holds};
-ghost use Rattle.aligned_ranges.specs.declared.ranges.Range.{Range as TheRange};
 
 /// A number of the interval lies in exactly one range of its cover, and another number in none. Of
 /// each level there are at most two ranges.
@@ -14,12 +13,12 @@ pub fn covers_are_partitions()
     ensures few { (lo hi w level : ℕ) → lo / 2 ^ w ≡ hi / 2 ^ w → length (cover_level lo hi w level) ≤ 2 }
 {}
 
-/// The cells of ranges of which none two share a number merge to the cell of the rows whose numbers lie in them, and
-/// those of a cover to the cell of the rows whose numbers lie in its interval.
+/// The cells of the rows that pass tests of which no row passes two merge to the cell of the rows that pass one of them.
+/// So those of the ranges of a cover merge to the cell of the rows whose numbers lie in its interval.
 pub fn cells_of_ranges_merge()
-    ensures ranges { (adds : Addends) (spec : CellSpec) (number : Row → ℕ) (rows : List Row) (ranges : List TheRange) → Apart rows → length rows < 2 ^ 64
-        → ((x : ℕ) → sum_by (λ r. if holds x r then 1 else 0) ranges ≤ 1)
-        → merge_all spec (map (λ r. cell adds spec (filter (λ row. holds (number row) r) rows)) ranges) ≡ cell adds spec (filter (λ row. list_any (holds (number row)) ranges) rows) }
+    ensures tests { (adds : Addends) (spec : CellSpec) (rows : List Row) (tests : List (Row → Bool)) → Apart rows → length rows < 2 ^ 64
+        → AllByRecursion (λ row. sum_by (λ passes. if passes row then 1 else 0) tests ≤ 1) rows
+        → merge_all spec (map (λ passes. cell adds spec (filter passes rows)) tests) ≡ cell adds spec (filter (λ row. list_any (λ passes. passes row) tests) rows) }
     ensures cover { (adds : Addends) (spec : CellSpec) (number : Row → ℕ) (rows : List Row) (lo hi w : ℕ) → 1 ≤ w → Apart rows → length rows < 2 ^ 64
         → merge_all spec (map (λ r. cell adds spec (filter (λ row. holds (number row) r) rows)) (cover lo hi w)) ≡ cell adds spec (filter (λ row. nat_le lo (number row) && nat_le (number row) hi) rows) }
 {}

@@ -14,10 +14,10 @@ use Rattle.session_model.specs.Sessions.{frame_of}
 use Rattle.key_frames.proofs.TreeLaws.{depth_same}
 use Rattle.private_plan.proofs.FirstTrees.{HasDepth}
 
-key_allowed : (kind : TreeKind) (e : Meaning) (p : Provider) (tree : ℕ) (s : Secret) (roots : ℕ × ℕ) → HasDepth (secret_tree s) → KeyAllowed (key_of kind e p tree s roots)
+key_allowed : (kind : TreeKind) (e : Meaning) (p : Provider) (tree : ℕ) (s : Secret) (roots : ℕ × ℕ) → HasDepth 128 (secret_tree s) → KeyAllowed (key_of kind e p tree s roots)
 key_allowed kind e p tree s roots h = let same = depth_same kind e p tree s roots in record { some = omega (arith, same, h.some); count = omega (arith, same, h.most) }
 
-pub keys_allowed : (e : Meaning) (p : Provider) (tree : ℕ) (ss : List Secret) (rs : List (ℕ × ℕ)) → AllByRecursion (λ s. HasDepth (secret_tree s)) ss → AllByRecursion KeyAllowed (key_list e p tree ss rs)
+pub keys_allowed : (e : Meaning) (p : Provider) (tree : ℕ) (ss : List Secret) (rs : List (ℕ × ℕ)) → AllByRecursion (λ s. HasDepth 128 (secret_tree s)) ss → AllByRecursion KeyAllowed (key_list e p tree ss rs)
 unfolding key_list
 keys_allowed e p tree [] rs h = tt
 keys_allowed e p tree (s ∷ ss) [] h = tt
@@ -35,7 +35,7 @@ pub record MayBeWritten (number : ℕ) (query : List ℕ) (secrets : List Secret
   pub query_length : (1 ≤ length query) × (length query ≤ 4096)
   pub printable : position is_bad query ≡ None
   pub trees : (1 ≤ length secrets) × (length secrets ≤ 512)
-  pub depths : AllByRecursion (λ s. HasDepth (secret_tree s)) secrets
+  pub depths : AllByRecursion (λ s. HasDepth 128 (secret_tree s)) secrets
   pub same : length roots ≡ length secrets
 
 pub frame_allowed : (e : Meaning) (p : Provider) (session round tree : ℕ) (query : List ℕ) (shape : ShapeParts) (secrets : List Secret) (roots : List (ℕ × ℕ)) → MayBeWritten round query secrets roots

@@ -17,7 +17,7 @@ use Rattle.key_frames.proofs.FrameLaws.{frame_sized}
 use Rattle.key_frames.specs.Trees.{key_tree, tree_length}
 use Rattle.session_model.specs.Sessions.{key_frame, session_roots}
 use Rattle.key_frames.proofs.TreeLaws.{trees_same}
-use Rattle.client_rounds.specs.Asked.{IsAsked}
+use Rattle.client_rounds.specs.WellPut.{IsWellPut}
 use Rattle.client_rounds.specs.Rounds.{round_length}
 use Rattle.client_rounds.proofs.Ends.{length-roots_of}
 
@@ -26,7 +26,7 @@ over_trees [] = refl
 over_trees (k ∷ ks) = sum_by-cons (λ k. tree_length (key_tree k)) k ks ∙ (ap (λ n. tree_length (key_tree k) + n) (over_trees ks) ∙ sym (sum_by-cons tree_length (key_tree k) (map key_tree ks)))
 
 -- a key frame of the first round has as many bytes as the plan tells
-pub round_is : (e : Meaning) (p : Provider) (checked : Checked) (shape : ShapeParts) (params words bytes : List ℕ) → IsAsked checked shape params
+pub round_is : (e : Meaning) (p : Provider) (checked : Checked) (shape : ShapeParts) (params words bytes : List ℕ) → IsWellPut checked shape params
     → KeyFrameOf bytes (key_frame e p checked shape params words) → length bytes ≡ round_length checked shape
 round_is e p checked shape params words bytes asked of =
     let secrets = secrets_in checked shape params first_round in

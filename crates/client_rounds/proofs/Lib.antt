@@ -8,7 +8,7 @@ pub mod Seeds
 pub mod Spelled
 pub mod Begun
 pub mod NoteSteps
-pub mod CellWords
+pub mod AnswerWords
 pub mod Read
 pub mod Ends
 pub mod ParamCounts

@@ -1,15 +1,12 @@
--- The parameters of an accepted query, and the items of a plan of sums.
-use Rattle.std.proofs.Common.{◌≡◌, ℕ, zero, suc, ◌*◌, ◌≤◌, Bool, true, false, List, length, refl, arith, nat_le, if◌then◌else◌}
-use Rattle.std.specs.List.{list_all}
-use Rattle.spl_values.specs.Shapes.{ColumnParts, SchemaParts}
+-- The parameters of an accepted query.
+use Rattle.std.proofs.Common.{◌≡◌, ℕ, zero, suc, ◌*◌, ◌≤◌, Bool, true, false, List, length, arith}
+use Rattle.spl_values.specs.Shapes.{SchemaParts}
 use Rattle.query_grammar.specs.Canonical.{IsQuery}
 use Rattle.query_reader.specs.declared.checked.Checked.{Checked}
 use Rattle.query_reader.specs.Accepted.{IsCheckedFor}
 use Rattle.query_reader.specs.Matching.{branch_params}
 use Rattle.query_reader.specs.Params.{AreParamsFor}
 use Rattle.query_reader.proofs.Known.{checked_some, checked_branches}
-use Rattle.private_plan.specs.declared.plans.PlanKind.TheVariants as kind
-use Rattle.private_plan.specs.Plans.{is_sum, kind_for, kind_of, last_bits}
 
 module _ (checked : Checked) (schema : SchemaParts) (params : List ℕ) (h : IsCheckedFor checked schema) (q : IsQuery checked.query) where
   -- there is a parameter
@@ -26,16 +23,3 @@ module _ (checked : Checked) (schema : SchemaParts) (params : List ℕ) (h : IsC
         at_least (suc m) (suc n) k a b e = rw e (omega arith)
         at_least zero n k a b e = absurd (omega arith)
         at_least (suc m) zero k a b e = absurd (omega arith)
-
--- ---- plans of sums
-
-sums_of : (sums range : Bool) (w : ℕ) → kind_for sums range w ≡ kind.Sum → sums ≡ true
-sums_of true range w is = refl
-sums_of false false w is = cc
-sums_of false true w is = no_sum (nat_le w 16) is where
-  no_sum : (b : Bool) → (if b then kind.Aligned else kind.Position) ≡ kind.Sum → false ≡ true
-  no_sum true e = cc
-  no_sum false e = cc
-
-pub only_sums : (checked : Checked) (columns : List ColumnParts) → kind_of checked columns ≡ kind.Sum → list_all is_sum checked.spec.items ≡ true
-only_sums checked columns is = sums_of (list_all is_sum checked.spec.items) checked.range (last_bits columns checked.columns) is

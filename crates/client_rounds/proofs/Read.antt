@@ -1,7 +1,7 @@
 -- Spelled notes and answers are read, and what is read comes to a result.
 use Rattle.std.proofs.Common.{◌≡◌, ℕ, List, length, Ok, refl, ap, arith}
 use Rattle.spl_values.specs.Shapes.{ShapeParts}
-use Rattle.cell_merge.specs.Cells.{block_width}
+use Rattle.cell_merge.specs.Cells.{cell_width, merge_all}
 use Rattle.frame_fields.specs.Reading.{frame_at}
 use Rattle.frame_fields.proofs.Laws.{frame_only}
 use Rattle.query_reader.specs.declared.checked.Checked.{Checked}
@@ -15,13 +15,13 @@ use Rattle.answer_frames.specs.declared.answer.AnswerFrame.{AnswerFrame}
 use Rattle.answer_frames.specs.Reading.{fields_at}
 use Rattle.answer_frames.specs.Spelling.{Allowed, Typed, AnswerOf, body}
 use Rattle.answer_frames.proofs.Answers.{fields_field, length-spelling}
-use Rattle.private_plan.specs.declared.plans.PlanKind.TheVariants as kind
-use Rattle.private_plan.specs.Plans.{kind_of, plan_of}
+use Rattle.private_plan.specs.Plans.{IsBuilt, plan_of}
 use Rattle.clear_sql.specs.declared.answer.Group.{Group}
 use Rattle.clear_sql.specs.AnswerText.{answer_text}
 use Rattle.clear_sql.specs.CellAnswers.{answer_of}
 use Rattle.combiner.specs.Combining.{combined}
-use Rattle.combiner.specs.Finals.{last_words, good_words, merged_alone, final_of}
+use Rattle.combiner.specs.Finals.{cells_in, last_words, final_of}
+use Rattle.combiner.specs.GoodWords.{good_words}
 use Rattle.client_rounds.specs.declared.faults.Source.{Source}
 use Rattle.client_rounds.specs.declared.faults.Source.TheVariants as source
 use Rattle.client_rounds.specs.declared.judging.Judged.{Judged}
@@ -41,10 +41,10 @@ pub answer_read : (s : Source) (bytes : List ℕ) (a : AnswerFrame) → AnswerOf
 answer_read s bytes a of = rw (answer_frame_read bytes a of) refl
 
 pub note_judged : (bytes : List ℕ) (n : Note) (checked : Checked) (params : List ℕ) → frame_at note_fields_at bytes ≡ Ok n → checked_in n.shape.schema n.query ≡ Ok checked
-    → kind_of checked n.shape.schema.columns ≡ kind.Sum → codes_in checked.query n.shape.schema n.params ≡ Ok params
+    → IsBuilt checked n.shape.schema.columns → codes_in checked.query n.shape.schema n.params ≡ Ok params
     → note_in bytes ≡ Ok (record { note = n; checked = checked; params = params; plan = plan_of checked n.shape })
 unfolding note_in
-note_judged bytes n checked params read query sums codes = rw (read, query, sums, codes) refl
+note_judged bytes n checked params read query built codes = rw (read, query, built, codes) refl
 
 pub result_is : (j : Judged) (a b : AnswerFrame) (words : List ℕ) (groups : List Group) → combined j.note a b (last_words j.plan) ≡ Ok words → final_of j.checked j.note.shape words ≡ Ok groups
     → result_of j a b ≡ Ok (answer_text j.note.shape.schema.columns j.checked.spec groups)
@@ -56,7 +56,7 @@ pub finished_is : (note a b : List ℕ) (j : Judged) (first second : AnswerFrame
 unfolding finished text_of_answers
 finished_is note a b j first second text judged one two result = rw (judged, one, two) result
 
-pub final_is : (checked : Checked) (shape : ShapeParts) (words : List ℕ) (groups : List Group) → good_words (block_width checked.spec.items) shape.rows 0 words ≡ Ok tt → merged_alone checked.spec words ≡ words
-    → answer_of shape.schema.columns checked.spec words ≡ groups → final_of checked shape words ≡ Ok groups
+pub final_is : (checked : Checked) (shape : ShapeParts) (words : List ℕ) (groups : List Group) → good_words shape.schema.columns checked.spec.items shape.rows 0 words ≡ Ok tt
+    → answer_of shape.schema.columns checked.spec (merge_all checked.spec (cells_in (cell_width checked.spec) words)) ≡ groups → final_of checked shape words ≡ Ok groups
 unfolding final_of
-final_is checked shape words groups good alone answer = rw (good, alone, answer) refl
+final_is checked shape words groups good answer = rw (good, answer) refl

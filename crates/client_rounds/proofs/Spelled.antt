@@ -39,7 +39,7 @@ use Rattle.private_plan.specs.Rounds.{first_round, secrets_in}
 use Rattle.session_model.specs.Draws.{wide, roots_of}
 use Rattle.key_frames.specs.Trees.{key_of, key_list}
 use Rattle.session_model.specs.Sessions.{session_roots, key_frame, key_bytes, note, note_bytes}
-use Rattle.client_rounds.specs.Asked.{IsAsked}
+use Rattle.client_rounds.specs.WellPut.{IsWellPut}
 use Rattle.client_rounds.specs.Expanding.{GivesSeeds}
 use Rattle.client_rounds.proofs.Printable.{Printable, text_prints}
 use Rattle.client_rounds.proofs.Written.{key_frame_allowed, note_allowed}
@@ -189,7 +189,7 @@ codes_small columns h (i ∷ is) (c ∷ cs) z = (code_small columns h i c z.0, c
 
 -- ---- frames and notes
 
-pub frame_spelled : (e : Meaning) → GivesSeeds e → (p : Provider) (checked : Checked) (shape : ShapeParts) (params words : List ℕ) → IsAsked checked shape params → AreWords words
+pub frame_spelled : (e : Meaning) → GivesSeeds e → (p : Provider) (checked : Checked) (shape : ShapeParts) (params words : List ℕ) → IsWellPut checked shape params → AreWords words
     → KeyFrameOf (key_bytes e p checked shape params words) (key_frame e p checked shape params words)
 unfolding key_bytes
 frame_spelled e gives p checked shape params words asked are =
@@ -205,7 +205,7 @@ frame_spelled e gives p checked shape params words asked are =
       spelled = refl;
     }
 
-pub note_spelled : (e : Meaning) (checked : Checked) (shape : ShapeParts) (params words : List ℕ) → IsAsked checked shape params → length params ≤ 255 → AreWords words
+pub note_spelled : (e : Meaning) (checked : Checked) (shape : ShapeParts) (params words : List ℕ) → IsWellPut checked shape params → length params ≤ 255 → AreWords words
     → NoteOf (note_bytes e checked shape params words) (note e checked shape params words)
 unfolding note_bytes
 note_spelled e checked shape params words asked few are =

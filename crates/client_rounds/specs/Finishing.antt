@@ -1,5 +1,5 @@
 -- What a note and two answers come to.
-use Rattle.std.specs.Prelude.{◌≡◌, ℕ, List, Result, Ok, Err}
+use Rattle.std.specs.Prelude.{◌≡◌, ℕ, List, Result, Ok, Err, if◌then◌else◌}
 use Rattle.spl_words.specs.declared.fault.FrameFault.{FrameFault}
 use Rattle.spl_words.specs.declared.fault.FrameFault.TheVariants as frame
 use Rattle.spl_words.specs.Results.{◌>>=◌}
@@ -13,8 +13,7 @@ use Rattle.key_frames.specs.NoteReading.{note_fields_at}
 use Rattle.answer_frames.specs.declared.answer.AnswerFrame.{AnswerFrame}
 use Rattle.answer_frames.specs.Reading.{fields_at}
 use Rattle.private_plan.specs.declared.plans.PlanKind.{PlanKind}
-use Rattle.private_plan.specs.declared.plans.PlanKind.TheVariants as kind
-use Rattle.private_plan.specs.Plans.{kind_of, plan_of}
+use Rattle.private_plan.specs.Plans.{is_built, kind_of, plan_of}
 use Rattle.clear_sql.specs.AnswerText.{answer_text}
 use Rattle.combiner.specs.declared.combining.CombineFault.{CombineFault}
 use Rattle.combiner.specs.declared.combining.CombineFault.TheVariants as combine
@@ -56,10 +55,7 @@ final_fault final.OutOfMemory = ask.OutOfMemory
 
 -- the refusal of a plan that isn't answered yet
 abbrev pub if_built : PlanKind → Result (Unit {0}) AskFault
-if_built kind.Sum = Ok tt
-if_built kind.Point = Err (ask.NotBuilt kind.Point)
-if_built kind.Aligned = Err (ask.NotBuilt kind.Aligned)
-if_built kind.Position = Err (ask.NotBuilt kind.Position)
+if_built k = if is_built k then Ok tt else Err (ask.NotBuilt k)
 
 -- what a note says: its frame, its query over its shape, the query's plan and the parameters
 unfoldable pub note_in : List ℕ → Result Judged AskFault
@@ -70,12 +66,11 @@ note_in bytes = do
   params ← or_ask param_fault (codes_in checked.query note.shape.schema note.params)
   Ok (record { note = note; checked = checked; params = params; plan = plan_of checked note.shape })
 
--- an accepted query of sums over the note's shape, its parameters and its plan
+-- an accepted query over the note's shape, its parameters and its plan
 pub record IsJudged (j : Judged) : Type 0 where
   pub accepted : IsCheckedFor j.checked j.note.shape.schema
   pub params : AreParamsFor j.checked j.note.shape.schema j.params
   pub plan : j.plan ≡ plan_of j.checked j.note.shape
-  pub built : j.plan.kind ≡ kind.Sum
 
 -- ---- answers
 

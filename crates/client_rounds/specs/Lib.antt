@@ -1,6 +1,6 @@
 pub mod Faults
 pub mod Draws
 pub mod Expanding
-pub mod Asked
+pub mod WellPut
 pub mod Rounds
 pub mod Finishing

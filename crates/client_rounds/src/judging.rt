@@ -16,7 +16,7 @@ use crate::faults::{AskFault, Source};
 use answer_frames::{AnswerFrame, read_answer};
 use judged_queries::{judge_codes, judge_query_bytes};
 use key_frames::{Note, read_note};
-use private_plan::{Plan, PlanKind, plan};
+use private_plan::{Plan, PlanKind, is_built, plan};
 use query_reader::{Checked, Params};
 use spl_words::FrameFault;
 use std::alloc::Global;
@@ -67,14 +67,12 @@ fn checked_of(alloc: Global, note: &Note) -> Result<Checked, AskFault>
 /// Refuses a plan that isn't answered yet.
 fn check_built(kind: PlanKind) -> Result<(), AskFault>
     ensures is { result ≡ if_built kind }
-    ensures built { IfOk result (λ _. kind ≡ PlanKind.Sum) }
     ensures no_draw { IsErrOf result ask.DrawFault → ⊥ }
 {
-    match kind {
-        PlanKind::Sum => Ok(()),
-        PlanKind::Point => Err(AskFault::NotBuilt(PlanKind::Point)),
-        PlanKind::Aligned => Err(AskFault::NotBuilt(PlanKind::Aligned)),
-        PlanKind::Position => Err(AskFault::NotBuilt(PlanKind::Position)),
+    if is_built(kind) {
+        Ok(())
+    } else {
+        Err(AskFault::NotBuilt(kind))
     }
 }
 

@@ -1,9 +1,9 @@
 //! Laws of rounds. Each function does nothing: its clauses are the laws.
-ghost use Rattle.std.specs.Prelude.{◌≡◌, ℕ, ◌≤◌, ◌<◌, ◌^◌, true, List, length, None, Ok};
-ghost use Rattle.std.specs.List.{AllByRecursion, list_all, position};
+ghost use Rattle.std.specs.Prelude.{◌≡◌, ℕ, ◌≤◌, ◌<◌, ◌^◌, List, length, None, Ok};
+ghost use Rattle.std.specs.List.{AllByRecursion, position};
 ghost use Rattle.spl_words.specs.declared.provider.Provider.{Provider as TheProvider};
 ghost use Rattle.spl_words.specs.declared.provider.Provider.TheVariants.{Zero, One};
-ghost use Rattle.spl_values.specs.Shapes.{SchemaParts, ShapeParts, ColumnParts};
+ghost use Rattle.spl_values.specs.Shapes.{SchemaParts, ShapeParts};
 ghost use Rattle.spl_values.specs.Tables.{TableParts, IsTable};
 ghost use Rattle.cell_merge.specs.TableRows.{rows_of};
 ghost use Rattle.seed_expansion.specs.Expanders.{Meaning, IsPure};
@@ -24,12 +24,11 @@ ghost use Rattle.frame_fields.specs.Reading.{frame_at};
 ghost use Rattle.answer_frames.specs.declared.answer.AnswerFrame.{AnswerFrame};
 ghost use Rattle.answer_frames.specs.Reading.{fields_at};
 ghost use Rattle.answer_frames.specs.Spelling.{AnswerOf};
-ghost use Rattle.private_plan.specs.declared.plans.PlanKind.TheVariants as kind;
-ghost use Rattle.private_plan.specs.Plans.{is_sum, kind_of};
+ghost use Rattle.private_plan.specs.Plans.{IsBuilt};
 ghost use Rattle.private_plan.specs.Rounds.{first_round, secrets_in};
 ghost use Rattle.session_model.specs.Answers.{answer_frame};
 ghost use Rattle.session_model.specs.Sessions.{key_frame, key_bytes, note, note_bytes, round_answer, clear_text};
-ghost use Rattle.client_rounds.specs.Asked.{IsAsked};
+ghost use Rattle.client_rounds.specs.WellPut.{IsWellPut};
 ghost use Rattle.client_rounds.specs.Expanding.{GivesSeeds};
 ghost use Rattle.client_rounds.specs.Rounds.{round_length};
 ghost use Rattle.client_rounds.specs.Finishing.{finished};
@@ -43,19 +42,14 @@ pub fn canonical_text_fits()
     ensures short { (q : QueryParts) (schema : SchemaParts) → IsAccepted q schema → length (canonical_text q) ≤ 4096 }
 {}
 
-/// A plan of sums is that of a query whose items are all counts, sums and means.
-pub fn sum_plan_has_sums()
-    ensures { (checked : TheChecked) (columns : List ColumnParts) → kind_of checked columns ≡ kind.Sum → list_all is_sum checked.spec.items ≡ true }
-{}
-
 /// A first round asks for 1 to 256 trees.
 pub fn first_rounds_ask_for_few_trees()
-    ensures { (checked : TheChecked) (shape : ShapeParts) (params : List ℕ) → IsAsked checked shape params → (1 ≤ length (secrets_in checked shape params first_round)) × (length (secrets_in checked shape params first_round) ≤ 256) }
+    ensures { (checked : TheChecked) (shape : ShapeParts) (params : List ℕ) → IsWellPut checked shape params → (1 ≤ length (secrets_in checked shape params first_round)) × (length (secrets_in checked shape params first_round) ≤ 256) }
 {}
 
 /// A key frame of a first round has as many bytes as the plan tells, whichever words were drawn.
 pub fn key_frames_are_as_long_as_planned()
-    ensures { (e : Meaning) (p : TheProvider) (checked : TheChecked) (shape : ShapeParts) (params words bytes : List ℕ) → IsAsked checked shape params
+    ensures { (e : Meaning) (p : TheProvider) (checked : TheChecked) (shape : ShapeParts) (params words bytes : List ℕ) → IsWellPut checked shape params
         → KeyFrameOf bytes (key_frame e p checked shape params words) → length bytes ≡ round_length checked shape }
 {}
 
@@ -67,16 +61,16 @@ pub fn params_are_few()
 
 /// The key frames and the note of a first round have values that may be written, whichever words were drawn.
 pub fn round_may_be_written()
-    ensures frame { (e : Meaning) (p : TheProvider) (checked : TheChecked) (shape : ShapeParts) (params words : List ℕ) → IsAsked checked shape params → FrameAllowed (key_frame e p checked shape params words) }
-    ensures note { (e : Meaning) (checked : TheChecked) (shape : ShapeParts) (params words : List ℕ) → IsAsked checked shape params → length params ≤ 255 → NoteAllowed (note e checked shape params words) }
+    ensures frame { (e : Meaning) (p : TheProvider) (checked : TheChecked) (shape : ShapeParts) (params words : List ℕ) → IsWellPut checked shape params → FrameAllowed (key_frame e p checked shape params words) }
+    ensures note { (e : Meaning) (checked : TheChecked) (shape : ShapeParts) (params words : List ℕ) → IsWellPut checked shape params → length params ≤ 255 → NoteAllowed (note e checked shape params words) }
 {}
 
 /// The bytes of a first round are those of its key frames and of its note, where the expander gives seeds and the words
 /// are words.
 pub fn round_is_spelled()
-    ensures frame { (e : Meaning) → GivesSeeds e → (p : TheProvider) (checked : TheChecked) (shape : ShapeParts) (params words : List ℕ) → IsAsked checked shape params → AllByRecursion (λ w. w < 2 ^ 64) words
+    ensures frame { (e : Meaning) → GivesSeeds e → (p : TheProvider) (checked : TheChecked) (shape : ShapeParts) (params words : List ℕ) → IsWellPut checked shape params → AllByRecursion (λ w. w < 2 ^ 64) words
         → KeyFrameOf (key_bytes e p checked shape params words) (key_frame e p checked shape params words) }
-    ensures note { (e : Meaning) (checked : TheChecked) (shape : ShapeParts) (params words : List ℕ) → IsAsked checked shape params → length params ≤ 255 → AllByRecursion (λ w. w < 2 ^ 64) words
+    ensures note { (e : Meaning) (checked : TheChecked) (shape : ShapeParts) (params words : List ℕ) → IsWellPut checked shape params → length params ≤ 255 → AllByRecursion (λ w. w < 2 ^ 64) words
         → NoteOf (note_bytes e checked shape params words) (note e checked shape params words) }
 {}
 
@@ -92,21 +86,21 @@ pub fn spelled_frames_are_read()
     ensures answer { (bytes : List ℕ) (a : AnswerFrame) → AnswerOf bytes a → frame_at fields_at bytes ≡ Ok a }
 {}
 
-/// What a provider answers to its key frame of a first round of counts, sums and means is the spelling of an answer frame.
+/// What a provider answers to its key frame of a first round is the spelling of an answer frame, where the plan is built.
 pub fn answers_are_spelled()
-    ensures { (e : Meaning) (p : TheProvider) (checked : TheChecked) (table : TableParts) (params drawn : List ℕ) → IsTable table → IsAsked checked table.shape params → list_all is_sum checked.spec.items ≡ true → AllByRecursion (λ w. w < 2 ^ 64) drawn
+    ensures { (e : Meaning) (p : TheProvider) (checked : TheChecked) (table : TableParts) (params drawn : List ℕ) → IsTable table → IsWellPut checked table.shape params → IsBuilt checked table.shape.schema.columns → AllByRecursion (λ w. w < 2 ^ 64) drawn
         → AnswerOf (round_answer e p checked table params drawn) (answer_frame e p (key_bytes e p checked table.shape params drawn) (key_frame e p checked table.shape params drawn) checked table) }
 {}
 
-/// A session of counts, sums and means ends with the clear answer: for every pure expander, an accepted query, parameters
-/// that some words gave, drawn words and a table of the shape within its sum bounds, the note of the session and what each
+/// A session ends with the clear answer: for every pure expander, an accepted query whose plan is built, parameters that
+/// some words gave, drawn words and a table of the shape within its sum bounds, the note of the session and what each
 /// provider answers to its key frame over that table come to the text of the clear answer, in either order.
 pub fn sessions_end_with_the_clear_answer()
     ensures in_order { (e : Meaning) → IsPure e → (checked : TheChecked) (table : TableParts) (params drawn : List ℕ) (texts : List (List ℕ)) → IsTable table → IsWellFormed checked.query → IsCheckedFor checked table.shape.schema
-        → list_all is_sum checked.spec.items ≡ true → params_of_words checked.query table.shape.schema texts ≡ Ok params → sums_bounded table checked.spec.items ≡ Ok tt → AllByRecursion (λ w. w < 2 ^ 64) drawn
+        → IsBuilt checked table.shape.schema.columns → params_of_words checked.query table.shape.schema texts ≡ Ok params → sums_bounded table checked.spec.items ≡ Ok tt → AllByRecursion (λ w. w < 2 ^ 64) drawn
         → finished (note_bytes e checked table.shape params drawn) (round_answer e Zero checked table params drawn) (round_answer e One checked table params drawn) ≡ Ok (clear_text checked params table) }
     ensures exchanged { (e : Meaning) → IsPure e → (checked : TheChecked) (table : TableParts) (params drawn : List ℕ) (texts : List (List ℕ)) → IsTable table → IsWellFormed checked.query → IsCheckedFor checked table.shape.schema
-        → list_all is_sum checked.spec.items ≡ true → params_of_words checked.query table.shape.schema texts ≡ Ok params → sums_bounded table checked.spec.items ≡ Ok tt → AllByRecursion (λ w. w < 2 ^ 64) drawn
+        → IsBuilt checked table.shape.schema.columns → params_of_words checked.query table.shape.schema texts ≡ Ok params → sums_bounded table checked.spec.items ≡ Ok tt → AllByRecursion (λ w. w < 2 ^ 64) drawn
         → finished (note_bytes e checked table.shape params drawn) (round_answer e One checked table params drawn) (round_answer e Zero checked table params drawn) ≡ Ok (clear_text checked params table) }
 {
     canonical_text_is_accepted();

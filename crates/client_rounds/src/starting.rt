@@ -1,6 +1,6 @@
 //! The first round of a session.
-ghost use Rattle.std.specs.Prelude.{◌≡◌, ◌⊎◌, ◌≤◌, ◌<◌, ℕ, List, true, None, length, replicate, IfSome, IfOk, IfErr, IsErrOf};
-ghost use Rattle.std.specs.List.{list_all, position};
+ghost use Rattle.std.specs.Prelude.{◌≡◌, ◌⊎◌, ◌≤◌, ◌<◌, ℕ, List, None, length, replicate, IfSome, IfOk, IfErr, IsErrOf};
+ghost use Rattle.std.specs.List.{position};
 ghost use Rattle.sha2.specs.Sha256.{sha256};
 ghost use Rattle.spl_outside.specs.Causes.{Counts};
 ghost use Rattle.query_reader.specs.Accepted.{IsCheckedFor};
@@ -8,7 +8,7 @@ ghost use Rattle.query_reader.specs.Params.{AreParamsFor};
 ghost use Rattle.key_frames.specs.Frames.{FrameAllowed, KeyFrameOf};
 ghost use Rattle.key_frames.specs.Notes.{NoteOf};
 ghost use Rattle.key_frames.specs.Texts.{is_bad};
-ghost use Rattle.private_plan.specs.Plans.{is_sum, plan_of};
+ghost use Rattle.private_plan.specs.Plans.{plan_of};
 ghost use Rattle.private_plan.specs.Rounds.{first_round, secrets_in};
 ghost use Rattle.session_model.specs.Draws.{wide};
 ghost use Rattle.session_model.specs.Sessions.{session_roots};
@@ -133,7 +133,6 @@ fn begun<E: Expander, R: Draw>(
     requires accepted { IsCheckedFor checked.now shape.now.schema }
     requires params { AreParamsFor checked.now shape.now.schema params.now }
     requires few { length params.now ≤ 255 }
-    requires sums { list_all is_sum checked.now.spec.items ≡ true }
     ensures told { IfSome (R.words draw.old) (λ ws. Draws (words_taken checked.now shape.now params.now) (IsRoundOf (E.meaning expander.now) checked.now shape.now params.now) ws (R.words draw.new) result) }
     // Also where the words aren't told.
     ensures some { IfOk result (IsRound (E.meaning expander.now) checked.now shape.now params.now) }
@@ -160,8 +159,7 @@ fn begun<E: Expander, R: Draw>(
 }
 
 /// Begins a session: draws its number and the roots of its trees, and gives the key frames and the note of the first
-/// round. The plan of the query is that of sums, and there are at most 255 parameters, as the calls that make them
-/// see to.
+/// round. There are at most 255 parameters, as the calls that make them see to.
 ///
 /// # Errors
 ///
@@ -177,7 +175,6 @@ pub fn start<E: Expander, R: Draw>(
     requires accepted { IsCheckedFor checked.now shape.now.schema }
     requires params { AreParamsFor checked.now shape.now.schema params.now }
     requires few { length params.now ≤ 255 }
-    requires sums { list_all is_sum checked.now.spec.items ≡ true }
     ensures told { IfSome (R.words draw.old) (λ ws. Draws (words_taken checked.now shape.now params.now) (IsRoundOf (E.meaning expander.now) checked.now shape.now params.now) ws (R.words draw.new) result) }
     // Also where the words aren't told.
     ensures some { IfOk result (IsRound (E.meaning expander.now) checked.now shape.now params.now) }

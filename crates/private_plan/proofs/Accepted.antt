@@ -1,13 +1,14 @@
 -- What is known of the intervals, the slots and the secrets of an accepted query.
-use Rattle.std.proofs.Common.{◌≡◌, ℕ, zero, suc, ◌+◌, ◌-◌, ◌^◌, ◌<◌, ◌≤◌, Bool, true, false, List, [], ◌∷◌, ◌++◌, length, map, replicate, get_or, drop, Option, Some, None, refl, sym, ap, subst, ◌∙◌, IfSome}
+use Rattle.std.proofs.Common.{◌≡◌, ℕ, zero, suc, ◌+◌, ◌-◌, ◌^◌, ◌<◌, ◌≤◌, Bool, true, false, List, [], ◌∷◌, ◌++◌, length, map, replicate, get_or, drop, Option, Some, None, refl, sym, ap, ap₂, subst, ◌∙◌, IfSome}
+use Rattle.std.specs.Prelude.{All, slice_get}
 use Rattle.std.specs.List.{flat_map, range_with_len}
 use Rattle.spl_words.specs.declared.secret.TreeKind.TheVariants.{Point, Threshold}
 use Rattle.spl_words.specs.Secrets.{Secret, secret_tree}
 use Rattle.spl_values.specs.Shapes.{ColumnParts, SchemaParts, ShapeParts}
 use Rattle.spl_values.specs.Tables.{key_bits}
 use Rattle.interval_keys.specs.Intervals.{Span, minus_below}
-use Rattle.interval_keys.specs.Slots.{EachSpan, IsSpan}
-use Rattle.interval_keys.proofs.SlotLaws.{each_slot, length-slots, single_slots}
+use Rattle.interval_keys.specs.Slots.{EachSpan, IsSpan, slots}
+use Rattle.interval_keys.proofs.SlotLaws.{each_slot, length-slots, single_slots, slots_below, valid_slots}
 use Rattle.aligned_ranges.specs.declared.ranges.Range.{Range}
 use Rattle.query_grammar.specs.Canonical.{IsQuery}
 use Rattle.query_reader.specs.declared.checked.Checked.{Checked}
@@ -21,7 +22,7 @@ use Rattle.private_plan.specs.declared.plans.PlanKind.{PlanKind}
 use Rattle.private_plan.specs.declared.plans.PlanKind.TheVariants as kind
 use Rattle.private_plan.specs.Branches.{branch_spans}
 use Rattle.private_plan.specs.Plans.{kind_of, last_bits, plan_of, slot_trees, tree}
-use Rattle.private_plan.specs.Slots.{count_below, level_secrets, slot_level, slot_secrets, slots_of}
+use Rattle.private_plan.specs.Slots.{IsSlot, count_below, level_secrets, range_secret, slot_level, slot_secrets, slots_of}
 use Rattle.private_plan.specs.Rounds.{first_round, first_secrets, secrets_in}
 use Rattle.private_plan.proofs.OneValue.{Agrees, joins_agree, spans_agree}
 use Rattle.private_plan.proofs.SlotSecrets.{first, second, single_spans}
@@ -38,10 +39,12 @@ module _ (bits : ℕ) where
   both_laid [] ys ts us e f = ap (λ l. l ++ map secret_tree ys) e ∙ ap (λ l. ts ++ l) f
   both_laid (x ∷ xs) ys ts us e f = ap (λ l. secret_tree x ∷ l) (both_laid xs ys (map secret_tree xs) us refl f) ∙ ap (λ l. l ++ us) e
 
+  range_tree : (r : Option Range) → secret_tree (range_secret bits r) ≡ tree Point bits
+  range_tree None = refl
+  range_tree (Some r) = refl
+
   level_laid : (rs : List Range) → map secret_tree (level_secrets bits rs) ≡ replicate 2 (tree Point bits)
-  level_laid [] = refl
-  level_laid (r ∷ []) = refl
-  level_laid (r ∷ s ∷ rs) = refl
+  level_laid rs = ap₂ (λ t u. t ∷ u ∷ []) (range_tree (slice_get rs 0)) (range_tree (slice_get rs 1))
 
 module _ (n : ℕ) where
   levels_laid : (level : ℕ → List Range) (js : List ℕ) → map secret_tree (flat_map (λ j. level_secrets (n - j) (level j)) js) ≡ flat_map (λ j. replicate 2 (tree Point (n - j))) js
@@ -69,6 +72,10 @@ module _ (n : ℕ) where
   slots_laid k range w from (s ∷ l) = both_laid n (first_secrets k range n w s) (flat_map (first_secrets k range n w) l) _ _ (slot_laid k range w s) (slots_laid k range w (from + 1) l)
 
 -- ---- an accepted query
+
+slot_is : (n w : ℕ) (slot : Option Span) → IfSome slot IsSpan → IfSome slot (λ s. s.hi < 2 ^ n) → IfSome slot (Agrees w) → IfSome slot (IsSlot n w)
+slot_is n w None valid below agree = tt
+slot_is n w (Some s) valid below agree = record { order = valid; below = below; agree = agree }
 
 length-spans : (columns : List ColumnParts) (n : ℕ) (places : List ℕ) (range : Bool) (params : List ℕ) → length (branch_spans columns n places range params) ≡ n
 unfolding branch_spans
@@ -98,6 +105,13 @@ module _ (checked : Checked) (schema : SchemaParts) (params : List ℕ) (h : IsC
       let w = last_bits schema.columns checked.columns in
       each_slot (Agrees w) (joins_agree w) spans valid_spans
       (all_at (λ (s : Option Span). IfSome s (Agrees w)) spans (spans_agree schema.columns checked.columns checked.range (checked_some checked schema h q) checked.branches params are.below))
+
+  -- what is known of its slots
+  pub slots_are : All (λ (slot : Option Span). IfSome slot (IsSlot checked.bits (last_bits schema.columns checked.columns))) (slots_of checked schema.columns params)
+  slots_are =
+      let valid = valid_slots spans valid_spans in
+      let below = slots_below spans (2 ^ checked.bits) valid_spans low_spans in
+      λ k d i. slot_is checked.bits (last_bits schema.columns checked.columns) (get_or (slots spans) k d) (valid k d i) (below k d i) (slots_agree k d i)
 
   pub slots_single : checked.range ≡ false → EachSpan (λ s. s.lo ≡ s.hi) (slots_of checked schema.columns params)
   slots_single e =

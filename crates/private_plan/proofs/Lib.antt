@@ -6,3 +6,6 @@ pub mod Loops
 pub mod OneValue
 pub mod SlotSecrets
 pub mod Spans
+pub mod CoverSecrets
+pub mod PointSecrets
+pub mod Telling

@@ -69,7 +69,7 @@ single_spans columns zero places params = tt
 single_spans columns (suc n) places params = (single_span columns places (take (branch_params places false) params), single_spans columns n places (drop (branch_params places false) params))
 
 -- the secrets of one slot add to its value, modulo 2 ^ 64
-point_adds : (bits x : ℕ) (s : Option Span) → IfSome s (λ t. t.lo ≡ t.hi) → secret_value (point_secret bits s) x ≡ slot_value s x
+pub point_adds : (bits x : ℕ) (s : Option Span) → IfSome s (λ t. t.lo ≡ t.hi) → secret_value (point_secret bits s) x ≡ slot_value s x
 point_adds bits x None e = zero_is (nat_eq x 0) where
   zero_is : (b : Bool) → cond {A = ℕ} b 0 0 ≡ 0
   zero_is true = refl

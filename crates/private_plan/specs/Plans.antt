@@ -1,5 +1,5 @@
 -- Plans: which trees a query asks for in each round, and how many words come back.
-use Rattle.std.specs.Prelude.{ℕ, ◌-◌, ◌*◌, ◌^◌, Bool, true, false, nat_le, find, List, [], ◌∷◌, length, replicate, unwrap_or, slice_index, if◌then◌else◌}
+use Rattle.std.specs.Prelude.{◌≡◌, ℕ, ◌-◌, ◌*◌, ◌^◌, Bool, true, false, nat_le, find, List, [], ◌∷◌, length, replicate, unwrap_or, slice_index, if◌then◌else◌}
 use Rattle.std.specs.List.{flat_map, list_all, range_with_len}
 use Rattle.spl_words.specs.declared.secret.TreeKind.{TreeKind}
 use Rattle.spl_words.specs.declared.secret.TreeKind.TheVariants.{Point as PointTree, Threshold as ThresholdTree}
@@ -50,6 +50,10 @@ brings_cells kind.Sum = false
 brings_cells kind.Point = true
 brings_cells kind.Aligned = true
 brings_cells kind.Position = false
+
+-- a query's plan is one that is answered so far
+abbrev pub IsBuilt : Checked → List ColumnParts → Type 0
+IsBuilt checked columns = is_built (kind_of checked columns) ≡ true
 
 -- a tree of that kind and depth
 abbrev pub tree : TreeKind → ℕ → KeySpec

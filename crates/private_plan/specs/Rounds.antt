@@ -3,7 +3,7 @@ use Rattle.std.specs.Prelude.{ℕ, ◌+◌, ◌-◌, ◌==◌, Bool, List, [], �
 use Rattle.std.specs.List.{flat_map}
 use Rattle.spl_words.specs.declared.secret.KeySpec.{KeySpec}
 use Rattle.spl_words.specs.Secrets.{Secret}
-use Rattle.spl_values.specs.Shapes.{ColumnParts, ShapeParts}
+use Rattle.spl_values.specs.Shapes.{ShapeParts}
 use Rattle.interval_keys.specs.Intervals.{Span}
 use Rattle.query_reader.specs.declared.checked.Checked.{Checked}
 use Rattle.private_plan.specs.declared.plans.Plan.{Plan}

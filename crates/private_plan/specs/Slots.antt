@@ -1,5 +1,5 @@
 -- The slots of a query, and the secrets of their trees.
-use Rattle.std.specs.Prelude.{◌≡◌, ℕ, zero, suc, ◌-◌, ◌^◌, ◌<◌, ◌≤◌, Bool, true, false, nat_lt, List, [], ◌∷◌, Option, None, Some, if◌then◌else◌}
+use Rattle.std.specs.Prelude.{◌≡◌, ℕ, zero, suc, ◌-◌, ◌/◌, ◌^◌, ◌<◌, ◌≤◌, Bool, true, false, nat_lt, List, [], ◌∷◌, slice_get, Option, None, Some, if◌then◌else◌}
 use Rattle.std.specs.List.{flat_map, range_with_len}
 use Rattle.spl_words.specs.declared.secret.TreeKind.TheVariants.{Point}
 use Rattle.spl_words.specs.Secrets.{Secret}
@@ -14,6 +14,12 @@ use Rattle.private_plan.specs.Branches.{branch_spans}
 -- the slots of a query with these parameters: what its branches allow, as disjoint intervals
 abbrev pub slots_of : Checked → List ColumnParts → List ℕ → List (Option Span)
 slots_of checked columns params = slots (branch_spans columns checked.branches checked.columns checked.range params)
+
+-- a slot of numbers of n bits, which agree above the lowest w
+pub record IsSlot (n w : ℕ) (s : Span) : Type 0 where
+  pub order : s.lo ≤ s.hi
+  pub below : s.hi < 2 ^ n
+  pub agree : s.lo / 2 ^ w ≡ s.hi / 2 ^ w
 
 -- ---- the secrets of one slot
 
@@ -35,11 +41,14 @@ abbrev pub slot_secrets : Bool → ℕ → Option Span → List Secret
 slot_secrets true bits slot = (interval_secrets bits slot).0 ∷ (interval_secrets bits slot).1 ∷ []
 slot_secrets false bits slot = point_secret bits slot ∷ []
 
--- two keys of a level for at most two ranges, the first of them first
+-- a tree for a range: the word 1 at its index, or an unused tree
+abbrev pub range_secret : ℕ → Option Range → Secret
+range_secret bits None = unused_point bits
+range_secret bits (Some r) = point_at bits r.index
+
+-- the two trees of a level: for its first range and for its second
 abbrev pub level_secrets : ℕ → List Range → List Secret
-level_secrets bits [] = unused_point bits ∷ unused_point bits ∷ []
-level_secrets bits (r ∷ []) = point_at bits r.index ∷ unused_point bits ∷ []
-level_secrets bits (r ∷ s ∷ rs) = point_at bits r.index ∷ point_at bits s.index ∷ []
+level_secrets bits ranges = range_secret bits (slice_get ranges 0) ∷ range_secret bits (slice_get ranges 1) ∷ []
 
 -- the ranges of level j in the cover of a slot by levels below w
 abbrev pub slot_level : ℕ → Option Span → ℕ → List Range

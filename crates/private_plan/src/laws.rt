@@ -1,8 +1,8 @@
 //! Laws of plans. Each function does nothing: its clauses are the laws.
-ghost use Rattle.std.specs.Prelude.{◌≡◌, ℕ, ◌/◌, ◌^◌, ◌<◌, ◌≤◌, Bool, false, List, length, map, if◌then◌else◌};
-ghost use Rattle.std.specs.List.{AllZip};
-ghost use Rattle.spl_words.specs.Secrets.{secret_tree, secrets_value};
-ghost use Rattle.spl_values.specs.Shapes.{ColumnParts, SchemaParts, ShapeParts};
+ghost use Rattle.std.specs.Prelude.{◌≡◌, ℕ, ◌-◌, ◌/◌, ◌^◌, ◌<◌, ◌≤◌, Bool, true, false, List, length, map, sum_by, if◌then◌else◌};
+ghost use Rattle.std.specs.List.{AllByRecursion, AllZip};
+ghost use Rattle.spl_words.specs.Secrets.{secret_tree, secret_value, secrets_value};
+ghost use Rattle.spl_values.specs.Shapes.{ColumnParts, IsSchema, SchemaParts, ShapeParts};
 ghost use Rattle.interval_keys.specs.Slots.{EachSpan, IsSpan, allowed, held};
 ghost use Rattle.cell_merge.specs.Rows.{Row};
 ghost use Rattle.query_grammar.specs.Canonical.{IsQuery};
@@ -12,9 +12,9 @@ ghost use Rattle.query_reader.specs.Matching.{branch_holds, some_branch_holds};
 ghost use Rattle.query_reader.specs.Params.{AreParamsFor, HasBits, branch_columns, times};
 ghost use Rattle.private_plan.specs.Branches.{RowHasBits, row_key, branch_span, branch_spans, span_holds};
 ghost use Rattle.private_plan.specs.declared.plans.PlanKind.TheVariants as kind;
-ghost use Rattle.private_plan.specs.Plans.{last_bits, plan_of};
-ghost use Rattle.private_plan.specs.Slots.{slots_of};
-ghost use Rattle.private_plan.specs.Rounds.{first_round, secrets_in};
+ghost use Rattle.private_plan.specs.Plans.{brings_cells, last_bits, plan_of};
+ghost use Rattle.private_plan.specs.Slots.{IsPointOf, slots_of};
+ghost use Rattle.private_plan.specs.Rounds.{first_depth, first_round, secrets_in};
 
 /// The interval of a branch holds a row's joined key exactly where the branch holds of the row, and
 /// the intervals of several branches where one of these does, for codes that have no more bits than

@@ -70,19 +70,19 @@ fn push_twice(trees: &mut Vec<KeySpec>, tree: KeySpec) -> Result<(), AllocError>
 
 /// What a plan follows from.
 #[derive(Clone, Copy)]
-struct Sizes {
-    kind: PlanKind,
-    range: bool,
+pub(crate) struct Sizes {
+    pub kind: PlanKind,
+    pub range: bool,
     /// How many slots there are, at most 8.
-    slots: u32,
+    pub slots: u32,
     /// The bits of the joined key.
-    bits: u32,
+    pub bits: u32,
     /// The bits of its last column, which a range is over.
-    last_bits: u32,
+    pub last_bits: u32,
     /// The words of a cell, at most 128.
-    cell: u32,
+    pub cell: u32,
     /// The number of rows, at most 262,144.
-    rows: u32,
+    pub rows: u32,
 }
 
 /// Adds the trees of one slot in the first round.
@@ -190,7 +190,7 @@ fn rounds(kind: PlanKind) -> u32
 }
 
 /// What the plan of a query follows from.
-fn sizes_of(checked: &Checked, shape: &Shape) -> Sizes
+pub(crate) fn sizes_of(checked: &Checked, shape: &Shape) -> Sizes
     requires { IsCheckedFor checked.now shape.now.schema }
     ensures kind { result.kind ≡ kind_of checked.now shape.now.schema.columns }
     ensures range { result.range ≡ checked.now.range }

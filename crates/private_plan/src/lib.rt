@@ -3,11 +3,13 @@
 
 mod branches;
 mod columns;
+mod covers;
 pub mod laws;
 mod layout;
 mod lengths;
 mod plans;
 mod secrets;
+mod slot_secrets;
 
 pub use branches::slots;
 pub use layout::plan;

@@ -1,6 +1,5 @@
 -- A provider answers its own key frame.
 use Rattle.std.proofs.Common.{◌≡◌, ℕ, true, List, Ok, refl}
-use Rattle.std.specs.List.{list_all}
 use Rattle.std.specs.Str.{bytes_eq}
 use Rattle.std.proofs.lemmas.Slice.Eq.{bytes_eq-Decides}
 use Rattle.spl_words.specs.declared.provider.Provider.{Provider}
@@ -12,14 +11,14 @@ use Rattle.frame_fields.specs.Reading.{frame_at}
 use Rattle.query_tokens.specs.Printing.{canonical_text}
 use Rattle.query_reader.specs.declared.checked.Checked.{Checked}
 use Rattle.judged_queries.specs.Queries.{checked_in}
-use Rattle.private_plan.specs.Plans.{is_sum}
+use Rattle.private_plan.specs.Plans.{IsBuilt}
 use Rattle.key_frames.specs.declared.frame.KeyFrame.{KeyFrame}
 use Rattle.key_frames.specs.FrameReading.{frame_fields_at}
 use Rattle.key_frames.specs.Frames.{KeyFrameOf}
 use Rattle.key_frames.proofs.FrameLaws.{frame_read}
 use Rattle.session_model.specs.Answers.{answer_bytes}
 use Rattle.session_model.specs.Sessions.{key_frame}
-use Rattle.client_rounds.specs.Asked.{IsAsked}
+use Rattle.client_rounds.specs.WellPut.{IsWellPut}
 use Rattle.provider_core.specs.Answering.{answered}
 use Rattle.provider_core.specs.Asking.{asked_in, frame_in, if_own, if_same_text, keys_placed, query_in}
 use Rattle.sum_bounds.specs.Bounds.{sums_bounded}
@@ -52,11 +51,11 @@ answered_is : (e : Meaning) (p : Provider) (bytes : List ℕ) (table : TablePart
 unfolding answered
 answered_is e p bytes table f checked asked = rw asked refl
 
-pub own_answered : (e : Meaning) (p : Provider) (checked : Checked) (table : TableParts) (params words bytes : List ℕ) → IsAsked checked table.shape params → list_all is_sum checked.spec.items ≡ true
+pub own_answered : (e : Meaning) (p : Provider) (checked : Checked) (table : TableParts) (params words bytes : List ℕ) → IsWellPut checked table.shape params → IsBuilt checked table.shape.schema.columns
     → sums_bounded table checked.spec.items ≡ Ok tt → checked_in table.shape.schema (canonical_text checked.query) ≡ Ok checked → KeyFrameOf bytes (key_frame e p checked table.shape params words)
     → answered e p bytes table ≡ Ok (answer_bytes e p bytes (key_frame e p checked table.shape params words) checked table)
-own_answered e p checked table params words bytes asked sums bounded canonical of =
+own_answered e p checked table params words bytes asked built bounded canonical of =
     let f = key_frame e p checked table.shape params words in
     let frame = frame_is p bytes table f (frame_read bytes f of) (own_is p) (same_is (shape_text table.shape)) in
-    let query = query_is table f checked canonical (round_placed e p checked table params words asked sums) bounded in
+    let query = query_is table f checked canonical (round_placed e p checked table params words asked built) bounded in
     answered_is e p bytes table f checked (asked_is p bytes table f checked frame query)

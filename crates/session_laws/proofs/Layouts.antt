@@ -1,8 +1,6 @@
 -- The keys of a round lie as the plan of its query asks.
 use Rattle.std.proofs.Common.{◌≡◌, ℕ, ◌+◌, true, List, [], ◌∷◌, length, map, drop, None, Ok, refl, sym, ap, subst, ◌∙◌, arith}
-use Rattle.std.specs.List.{list_all}
 use Rattle.std.proofs.lemmas.Bool.{eq-eqb}
-use Rattle.spl_words.specs.Results.{◌>>=◌}
 use Rattle.spl_words.specs.declared.provider.Provider.{Provider}
 use Rattle.spl_words.specs.declared.secret.KeySpec.{KeySpec}
 use Rattle.spl_words.specs.declared.secret.TreeKind.{TreeKind}
@@ -11,9 +9,7 @@ use Rattle.spl_words.specs.Secrets.{Secret, secret_tree}
 use Rattle.spl_values.specs.Tables.{TableParts}
 use Rattle.seed_expansion.specs.Expanders.{Meaning}
 use Rattle.query_reader.specs.declared.checked.Checked.{Checked}
-use Rattle.private_plan.specs.declared.plans.PlanKind.{PlanKind}
-use Rattle.private_plan.specs.declared.plans.PlanKind.TheVariants as kind
-use Rattle.private_plan.specs.Plans.{is_sum, kind_of, plan_of, tree}
+use Rattle.private_plan.specs.Plans.{IsBuilt, is_built, plan_of, tree}
 use Rattle.private_plan.specs.Lengths.{trees_in}
 use Rattle.private_plan.specs.Rounds.{first_round, secrets_in}
 use Rattle.private_plan.proofs.Accepted.{secrets_laid}
@@ -22,10 +18,9 @@ use Rattle.key_frames.specs.declared.keys.Key.{Key}
 use Rattle.key_frames.specs.Trees.{key_of, key_list}
 use Rattle.key_frames.proofs.TreeLaws.{depth_same}
 use Rattle.session_model.specs.Sessions.{key_frame, session_roots}
-use Rattle.session_model.proofs.Answers.{sum_kind}
-use Rattle.client_rounds.specs.Asked.{IsAsked}
+use Rattle.client_rounds.specs.WellPut.{IsWellPut}
 use Rattle.client_rounds.proofs.Ends.{length-roots_of}
-use Rattle.provider_core.specs.Asking.{if_placed, if_sum, keys_placed}
+use Rattle.provider_core.specs.Asking.{keys_placed}
 use Rattle.provider_core.specs.Layouts.{is_key_of, layout_differs}
 
 -- ---- one key after another
@@ -52,20 +47,19 @@ module _ (e : Meaning) (p : Provider) where
 
 -- ---- a plan
 
--- keys in their places, where the plan is one of sums
-placed_is : (table : TableParts) (frame : KeyFrame) (checked : Checked) → kind_of checked table.shape.schema.columns ≡ kind.Sum → layout_differs 0 (trees_in (plan_of checked table.shape) frame.round) frame.keys ≡ None
+-- keys in their places, where the plan is built
+placed_is : (table : TableParts) (frame : KeyFrame) (checked : Checked) → IsBuilt checked table.shape.schema.columns → layout_differs 0 (trees_in (plan_of checked table.shape) frame.round) frame.keys ≡ None
     → keys_placed table frame checked ≡ Ok tt
 unfolding keys_placed
 placed_is table frame checked built none =
-    ap (λ (k : PlanKind). if_sum k >>= (λ b. if_placed (layout_differs 0 (trees_in (plan_of checked table.shape) frame.round) frame.keys))) built
-    ∙ ap if_placed none
+    rw (built, none) refl
 
 -- the keys of a round lie as its plan asks
-pub round_placed : (e : Meaning) (p : Provider) (checked : Checked) (table : TableParts) (params words : List ℕ) → IsAsked checked table.shape params → list_all is_sum checked.spec.items ≡ true
+pub round_placed : (e : Meaning) (p : Provider) (checked : Checked) (table : TableParts) (params words : List ℕ) → IsWellPut checked table.shape params → IsBuilt checked table.shape.schema.columns
     → keys_placed table (key_frame e p checked table.shape params words) checked ≡ Ok tt
-round_placed e p checked table params words asked sums =
+round_placed e p checked table params words asked built =
     let secrets = secrets_in checked table.shape params first_round in
     let keys = key_list e p 0 secrets (session_roots secrets words) in
     let laid = secrets_placed e p 0 0 secrets (session_roots secrets words) (length-roots_of (length secrets) (drop 2 words)) in
-    placed_is table (key_frame e p checked table.shape params words) checked (sum_kind checked table sums)
+    placed_is table (key_frame e p checked table.shape params words) checked built
     (subst (λ (ts : List KeySpec). layout_differs 0 ts keys ≡ None) (secrets_laid checked table.shape params asked.accepted asked.form.form asked.known) laid)

@@ -1,6 +1,5 @@
 -- Sessions: what is asked of a table, and what is written for it.
-use Rattle.std.specs.Prelude.{◌≡◌, ℕ, true, List, Ok}
-use Rattle.std.specs.List.{list_all}
+use Rattle.std.specs.Prelude.{◌≡◌, ℕ, List, Ok}
 use Rattle.spl_words.specs.declared.provider.Provider.{Provider}
 use Rattle.spl_values.specs.Tables.{TableParts, IsTable}
 use Rattle.seed_expansion.specs.Expanders.{Meaning}
@@ -8,7 +7,7 @@ use Rattle.query_tokens.specs.Printing.{IsWellFormed}
 use Rattle.query_reader.specs.declared.checked.Checked.{Checked}
 use Rattle.query_reader.specs.Accepted.{IsCheckedFor}
 use Rattle.query_reader.specs.Params.{params_of_words}
-use Rattle.private_plan.specs.Plans.{is_sum}
+use Rattle.private_plan.specs.Plans.{IsBuilt}
 use Rattle.key_frames.specs.Frames.{KeyFrameOf}
 use Rattle.key_frames.specs.Notes.{NoteOf}
 use Rattle.session_model.specs.Sessions.{key_frame, key_bytes, note, note_bytes, clear_text}
@@ -22,12 +21,12 @@ pub record Session : Type 0 where
   pub table : TableParts
   pub words : List ℕ
 
--- an accepted query of counts, sums and means for the table, whose sums are within their bounds, and parameters that some words gave
+-- an accepted query for the table whose plan is built and whose sums are within their bounds, and parameters that some words gave
 pub record IsSession (s : Session) : Type 0 where
   pub table : IsTable s.table
   pub form : IsWellFormed s.checked.query
   pub accepted : IsCheckedFor s.checked s.table.shape.schema
-  pub sums : list_all is_sum s.checked.spec.items ≡ true
+  pub built : IsBuilt s.checked s.table.shape.schema.columns
   pub given : (texts : List (List ℕ)) × (params_of_words s.checked.query s.table.shape.schema texts ≡ Ok s.params)
   pub bounded : sums_bounded s.table s.checked.spec.items ≡ Ok tt
 

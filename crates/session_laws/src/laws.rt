@@ -1,18 +1,18 @@
 //! Laws of whole sessions. Each function does nothing: its clauses are the laws.
-ghost use Rattle.std.specs.Prelude.{◌≡◌, ℕ, ◌<◌, ◌^◌, true, List, Ok};
-ghost use Rattle.std.specs.List.{AllByRecursion, list_all};
+ghost use Rattle.std.specs.Prelude.{◌≡◌, ℕ, ◌<◌, ◌^◌, List, Ok};
+ghost use Rattle.std.specs.List.{AllByRecursion};
 ghost use Rattle.spl_words.specs.declared.provider.Provider.{Provider};
 ghost use Rattle.spl_words.specs.declared.provider.Provider.TheVariants.{Zero, One};
 ghost use Rattle.spl_values.specs.Tables.{TableParts, IsTable};
 ghost use Rattle.seed_expansion.specs.Expanders.{Meaning, IsPure};
 ghost use Rattle.query_reader.specs.declared.checked.Checked.{Checked};
 ghost use Rattle.query_reader.specs.Accepted.{IsCheckedFor};
-ghost use Rattle.private_plan.specs.Plans.{is_sum};
+ghost use Rattle.private_plan.specs.Plans.{IsBuilt};
 ghost use Rattle.key_frames.specs.Frames.{KeyFrameOf};
 ghost use Rattle.answer_frames.specs.Spelling.{AnswerOf};
 ghost use Rattle.session_model.specs.Answers.{answer_bytes, answer_frame};
 ghost use Rattle.session_model.specs.Sessions.{key_frame};
-ghost use Rattle.client_rounds.specs.Asked.{IsAsked};
+ghost use Rattle.client_rounds.specs.WellPut.{IsWellPut};
 ghost use Rattle.client_rounds.specs.Expanding.{GivesSeeds};
 ghost use Rattle.client_rounds.specs.Finishing.{finished};
 ghost use Rattle.provider_core.specs.Answering.{answered};
@@ -23,14 +23,14 @@ use client_rounds::laws::{params_are_few, round_is_spelled};
 use judged_queries::laws::canonical_text_is_accepted;
 
 /// A provider answers its key frame of a round, over a table of the shape that is asked whose sums are within their
-/// bounds: for every expander, accepted query of counts, sums and means, parameters and drawn words, nothing refuses the
+/// bounds: for every expander, accepted query whose plan is built, parameters and drawn words, nothing refuses the
 /// bytes of the frame, and what is answered is the spelling of an answer frame.
 pub fn own_keys_are_answered()
-    ensures answered { (e : Meaning) (p : Provider) (checked : Checked) (table : TableParts) (params words bytes : List ℕ) → IsTable table → IsAsked checked table.shape params
-        → list_all is_sum checked.spec.items ≡ true → sums_bounded table checked.spec.items ≡ Ok tt → KeyFrameOf bytes (key_frame e p checked table.shape params words)
+    ensures answered { (e : Meaning) (p : Provider) (checked : Checked) (table : TableParts) (params words bytes : List ℕ) → IsTable table → IsWellPut checked table.shape params
+        → IsBuilt checked table.shape.schema.columns → sums_bounded table checked.spec.items ≡ Ok tt → KeyFrameOf bytes (key_frame e p checked table.shape params words)
         → answered e p bytes table ≡ Ok (answer_bytes e p bytes (key_frame e p checked table.shape params words) checked table) }
-    ensures spelled { (e : Meaning) (p : Provider) (checked : Checked) (table : TableParts) (params words bytes : List ℕ) → IsTable table → IsAsked checked table.shape params
-        → list_all is_sum checked.spec.items ≡ true → KeyFrameOf bytes (key_frame e p checked table.shape params words)
+    ensures spelled { (e : Meaning) (p : Provider) (checked : Checked) (table : TableParts) (params words bytes : List ℕ) → IsTable table → IsWellPut checked table.shape params
+        → IsBuilt checked table.shape.schema.columns → KeyFrameOf bytes (key_frame e p checked table.shape params words)
         → AnswerOf (answer_bytes e p bytes (key_frame e p checked table.shape params words) checked table) (answer_frame e p bytes (key_frame e p checked table.shape params words) checked table) }
 {
     canonical_text_is_accepted();
@@ -45,7 +45,7 @@ pub fn own_sessions_are_spelled()
     params_are_few();
 }
 
-/// A session of counts, sums and means ends with the clear answer: for every pure expander, the note of the session and
+/// A session ends with the clear answer: for every pure expander, the note of the session and
 /// what both providers answer to the bytes of their key frames over that table come to the text of the clear answer, in
 /// either order.
 pub fn own_sessions_end()

@@ -1,5 +1,5 @@
 -- The answers of both providers add to the cell of the rows that match.
-use Rattle.std.proofs.Common.{◌≡◌, ℕ, ◌+◌, ◌*◌, ◌%◌, ◌^◌, ◌<◌, Bool, true, false, cond, List, [], ◌∷◌, ◌++◌, length, take, drop, refl, sym, ap, ap₂, ◌∙◌, arith}
+use Rattle.std.proofs.Common.{◌≡◌, ℕ, ◌+◌, ◌*◌, ◌%◌, ◌^◌, ◌<◌, true, cond, List, [], ◌∷◌, length, take, refl, sym, ap, ap₂, ◌∙◌, arith}
 use Rattle.std.specs.Prelude.{map, slice_index, sum_by}
 use Rattle.std.specs.List.{AllByRecursion, flat_map, list_all}
 use Rattle.std.proofs.lemmas.List.{append-nil, take_all}
@@ -13,35 +13,33 @@ use Rattle.spl_values.specs.Shapes.{ColumnParts}
 use Rattle.spl_values.specs.Tables.{TableParts, IsTable, key_bits}
 use Rattle.cell_merge.specs.Rows.{Row}
 use Rattle.cell_merge.specs.Cells.{cell, cell_width}
-use Rattle.cell_merge.specs.TableRows.{adds_in, row_in, rows_of}
-use Rattle.cell_merge.proofs.Labels.{Apart-filter}
-use Rattle.cell_merge.proofs.Lists.{each-filter, length-filter-le}
-use Rattle.cell_merge.proofs.RowCells.{rows_apart}
+use Rattle.cell_merge.specs.TableRows.{adds_in, row_in}
+use Rattle.cell_merge.proofs.Lists.{each-map}
 use Rattle.seed_expansion.specs.Expanders.{Meaning, IsPure}
 use Rattle.query_grammar.specs.Canonical.{IsQuery}
 use Rattle.query_reader.specs.declared.checked.Checked.{Checked}
 use Rattle.query_reader.specs.Accepted.{IsCheckedFor}
-use Rattle.query_reader.specs.Matching.{is_kept, kept_rows, matching_rows, some_branch_holds}
+use Rattle.query_reader.specs.Matching.{kept_rows, matching_rows, some_branch_holds}
 use Rattle.query_reader.specs.Params.{AreParamsFor}
 use Rattle.query_reader.proofs.Known.{checked_some, checked_bits}
-use Rattle.clear_sql.proofs.MatchingCells.{length-rows_of}
 use Rattle.count_sum.specs.SumPairs.{joined_key, row_cell, sum_pairs}
 use Rattle.key_frames.specs.declared.keys.Key.{Key}
 use Rattle.key_frames.specs.Trees.{key_list, key_shares}
 use Rattle.key_frames.proofs.TreeLaws.{folds_add}
 use Rattle.private_plan.specs.declared.plans.PlanKind.{PlanKind}
 use Rattle.private_plan.specs.declared.plans.PlanKind.TheVariants as kind
-use Rattle.private_plan.specs.Plans.{is_sum, kind_for, kind_of, last_bits, plan_of}
-use Rattle.private_plan.specs.Branches.{row_key, branch_spans}
+use Rattle.private_plan.specs.Plans.{is_sum, kind_for, last_bits, plan_of}
+use Rattle.private_plan.specs.Branches.{branch_spans}
 use Rattle.private_plan.specs.Slots.{slot_secrets, slots_of}
-use Rattle.private_plan.specs.Rounds.{first_round, first_tree, folds_for, folds_in, secrets_in}
+use Rattle.private_plan.specs.Rounds.{first_round, folds_for, secrets_in}
 use Rattle.private_plan.proofs.Accepted.{secrets_of_sum}
-use Rattle.private_plan.proofs.Spans.{row_key_below, spans_fit}
+use Rattle.private_plan.proofs.Spans.{spans_fit}
 use Rattle.private_plan.proofs.SlotSecrets.{secrets_tell, slots_fit}
 use Rattle.session_model.specs.Answers.{answer_words, words_of_fold}
 use Rattle.session_model.proofs.CellSums.{rows_add}
+use Rattle.session_model.proofs.KeptRows.{each_kept, few_kept, kept_apart, kept_below}
 use Rattle.session_model.proofs.SumSecrets.{IsOf, slots_are, secrets, numbers}
-use Rattle.session_model.proofs.TableRows.{row_codes, row_key_same, each_row}
+use Rattle.session_model.proofs.TableRows.{row_codes, row_key_same}
 
 -- ---- one fold
 
@@ -70,10 +68,6 @@ same_sums : (f g : Row → ℕ) (rows : List Row) → AllByRecursion (λ r. f r 
 same_sums f g [] each = refl
 same_sums f g (r ∷ rows) each = sum_by-cons f r rows ∙ (ap₂ (λ m n. m + n) each.0 (same_sums f g rows each.1) ∙ sym (sum_by-cons g r rows))
 
-over_pairs : (P : ℕ → Type 0) (h : Row → ℕ × List ℕ) (rows : List Row) → AllByRecursion (λ r. P ((h r).0)) rows → AllByRecursion (λ (q : ℕ × List ℕ). P q.0) (map h rows)
-over_pairs P h [] each = tt
-over_pairs P h (r ∷ rows) each = (each.0, over_pairs P h rows each.1)
-
 -- ---- the answers
 
 module _ (e : Meaning) (pure : IsPure e) (checked : Checked) (t : TableParts) (params : List ℕ) (roots : List (ℕ × ℕ)) (valid : IsTable t)
@@ -97,13 +91,6 @@ module _ (e : Meaning) (pure : IsPure e) (checked : Checked) (t : TableParts) (p
       let fit = slots_fit (branch_spans columns checked.branches places checked.range params) (2 ^ key_bits columns places) (spans_fit columns places checked.range some checked.branches params known.below) in
       rw asked_is (slots_are checked.bits checked.range (slots_of checked columns params) (rw bits fit))
 
-  -- a row's joined key has the key's bits
-  row_below : (n : ℕ) → n < length t.rows → joined_key checked t (row_in t n) < 2 ^ checked.bits
-  row_below n h =
-      let key = row_key_same t valid places n h in
-      let bits = checked_bits checked t.shape.schema accepted in
-      rw (key, bits) (row_key_below columns places (row_in t n) (row_codes t valid places n h))
-
   -- what the secrets say of a row
   row_told : (n : ℕ) → n < length t.rows → secrets_value asked (joined_key checked t (row_in t n)) ≡ cond (some_branch_holds checked.branches places checked.range params (row_in t n)) 1 0
   row_told n h =
@@ -119,17 +106,12 @@ module _ (e : Meaning) (pure : IsPure e) (checked : Checked) (t : TableParts) (p
       let m = some_branch_holds checked.branches places checked.range params in
       let rows = kept_rows checked t in
       let pair : Row → ℕ × List ℕ = λ r. (joined_key checked t r, row_cell checked t r) in
-      let below = each-filter (λ r. joined_key checked t r < 2 ^ checked.bits) (is_kept checked.public) (rows_of t) (each_row t valid (λ r. joined_key checked t r < 2 ^ checked.bits) row_below) in
-      let small = over_pairs (λ x. AllByRecursion (λ (s : Secret). x < 2 ^ s.depth) asked) pair rows (all_numbers rows below) in
-      let told = each-filter (λ r. secrets_value asked (joined_key checked t r) * w r ≡ cond (m r) 1 0 * w r) (is_kept checked.public) (rows_of t)
-      (each_row t valid (λ r. secrets_value asked (joined_key checked t r) * w r ≡ cond (m r) 1 0 * w r) (λ n h. ap (λ v. v * w (row_in t n)) (row_told n h))) in
-      let apart = Apart-filter (is_kept checked.public) (rows_of t) (rows_apart t) in
-      let fewer = length-filter-le (is_kept checked.public) (rows_of t) in
-      let count = length-rows_of t in
-      let few : length rows < 2 ^ 64 = omega (arith, fewer, count, valid.count, valid.shape.few) in
+      let below = kept_below checked t valid accepted in
+      let small = each-map (λ (q : ℕ × List ℕ). AllByRecursion (λ (s : Secret). q.0 < 2 ^ s.depth) asked) pair rows (all_numbers rows below) in
+      let told = each_kept checked t valid (λ r. secrets_value asked (joined_key checked t r) * w r ≡ cond (m r) 1 0 * w r) (λ n h. ap (λ v. v * w (row_in t n)) (row_told n h)) in
       folds_add e pure 0 asked roots (sum_pairs checked t) k same (secrets checked.bits asked each_secret) small
       ∙ ap (λ n. n % 2 ^ 64) (over_rows (λ p. secrets_value asked p.0 * slice_index p.1 k) pair rows ∙ same_sums (λ r. secrets_value asked (joined_key checked t r) * w r) (λ r. cond (m r) 1 0 * w r) rows told)
-      ∙ rows_add (adds_in columns) checked.spec sums m rows k apart few here where
+      ∙ rows_add (adds_in columns) checked.spec sums m rows k (kept_apart checked t) (few_kept checked t valid) here where
         all_numbers : (rs : List Row) → AllByRecursion (λ r. joined_key checked t r < 2 ^ checked.bits) rs → AllByRecursion (λ r. AllByRecursion (λ (s : Secret). joined_key checked t r < 2 ^ s.depth) asked) rs
         all_numbers [] h = tt
         all_numbers (r ∷ rs) h = (numbers checked.bits (joined_key checked t r) asked each_secret h.0, all_numbers rs h.1)

@@ -68,13 +68,13 @@ blocks_add (suc n) is a b s la lb =
     let more = blocks_add n is (drop w a) (drop w b) s (omega (arith, la, split, three)) (omega (arith, lb, split, four)) in
     rw (here, more) (sym (wordwise_parts w a b))
 
-word_at : (a b : List ℕ) (k : ℕ) → k < length a → k < length b → slice_index (wordwise a b) k ≡ plus (slice_index a k) (slice_index b k)
+pub word_at : (a b : List ℕ) (k : ℕ) → k < length a → k < length b → slice_index (wordwise a b) k ≡ plus (slice_index a k) (slice_index b k)
 word_at [] b k h i = absurd (omega (arith, h))
 word_at (x ∷ xs) [] k h i = absurd (omega (arith, i))
 word_at (x ∷ xs) (y ∷ ys) zero h i = refl
 word_at (x ∷ xs) (y ∷ ys) (suc k) h i = word_at xs ys k (omega (arith, h)) (omega (arith, i))
 
-same_lengths : {X : Type 0} (f : X → List ℕ) (k : ℕ) → ((x : X) → length (f x) ≡ k) → (xs : List X) → length (flat_map f xs) ≡ length xs * k
+pub same_lengths : {X : Type 0} (f : X → List ℕ) (k : ℕ) → ((x : X) → length (f x) ≡ k) → (xs : List X) → length (flat_map f xs) ≡ length xs * k
 same_lengths f k each [] = sym (zero-mul k)
 same_lengths f k each (x ∷ xs) =
     let split : (length xs + 1) * k ≡ length xs * k + 1 * k = add-mul (length xs) 1 k in
@@ -92,7 +92,13 @@ length-cell adds spec rows =
     same_lengths (block adds spec.items) (block_width spec.items) (length-block adds spec.items) (groups spec.group spec.labels rows)
     ∙ ap (λ n. n * block_width spec.items) (count_groups spec.group spec.labels rows)
 
-all_right : (b : List Row) → Interleaves [] b b
+-- each word of zeros is 0
+pub no_word : (n k : ℕ) → slice_index (replicate n 0) k ≡ 0
+no_word zero k = refl
+no_word (suc n) zero = refl
+no_word (suc n) (suc k) = no_word n k
+
+pub all_right : (b : List Row) → Interleaves [] b b
 all_right [] = none
 all_right (x ∷ xs) = right x [] xs xs (all_right xs)
 
@@ -106,11 +112,6 @@ module _ (adds : Addends) (spec : CellSpec) (sums : list_all is_sum spec.items �
       let union = cell_merge adds spec (r ∷ []) rows (r ∷ rows) (left r [] rows rows (all_right rows)) apart few in
       let parts = blocks_add (blocks spec.group spec.labels) spec.items (cell adds spec (r ∷ [])) (cell adds spec rows) sums one others in
       ap (λ l. slice_index l k) (sym union ∙ parts) ∙ word_at (cell adds spec (r ∷ [])) (cell adds spec rows) k (rw one here) (rw others here)
-
-  no_word : (n k : ℕ) → slice_index (replicate n 0) k ≡ 0
-  no_word zero k = refl
-  no_word (suc n) zero = refl
-  no_word (suc n) (suc k) = no_word n k
 
   chosen : (passes : Row → Bool) (r : Row) (rows : List Row) (k s : ℕ) (b : Bool) → Apart (r ∷ rows) → length (r ∷ rows) < 2 ^ 64 → k < cell_width spec
       → s % 2 ^ 64 ≡ slice_index (cell adds spec rows) k % 2 ^ 64

@@ -1,5 +1,12 @@
 pub mod CellSums
 pub mod TableRows
+pub mod KeptRows
 pub mod SumSecrets
 pub mod Answers
 pub mod PointCells
+pub mod Told
+pub mod CellWords
+pub mod Plans
+pub mod TreeWords
+pub mod CellsBack
+pub mod CellsMerge

@@ -1,6 +1,6 @@
 -- A point function tells the cell at its number.
-use Rattle.std.proofs.Common.{◌≡◌, ◌≢◌, ℕ, zero, suc, ◌+◌, ◌*◌, ◌%◌, ◌^◌, ◌<◌, false, ◌||◌, cond, eqb, List, [], ◌∷◌, inl, inr, refl, sym, ap, ap₂, subst, ◌∙◌, arith}
-use Rattle.std.specs.Prelude.{map, replicate, slice_index, sum_by}
+use Rattle.std.proofs.Common.{◌≡◌, ◌≢◌, ℕ, ◌+◌, ◌*◌, ◌%◌, ◌^◌, ◌<◌, false, ◌||◌, cond, eqb, List, [], ◌∷◌, inl, inr, refl, sym, ap, ap₂, subst, ◌∙◌, arith}
+use Rattle.std.specs.Prelude.{map, slice_index, sum_by}
 use Rattle.std.specs.List.{AllByRecursion}
 use Rattle.std.proofs.Math.Nat.{zero-mul}
 use Rattle.std.proofs.lemmas.Bool.{cases_Bool, eqb-true, eq-eqb, ne_eqb, false≢true}
@@ -17,6 +17,7 @@ use Rattle.cell_merge.proofs.All.{cell_empty}
 use Rattle.cell_runs.specs.CellsBy.{cells_by, rows_at}
 use Rattle.cell_runs.proofs.Grouping.{cell_at}
 use Rattle.cell_runs.proofs.Numbers.{none_among}
+use Rattle.session_model.proofs.CellSums.{no_word}
 
 over_numbers : (F : ℕ × List ℕ → ℕ) (h : ℕ → ℕ × List ℕ) (ns : List ℕ) → sum_by F (map h ns) ≡ sum_by (λ n. F (h n)) ns
 over_numbers F h [] = refl
@@ -68,12 +69,7 @@ module _ (alpha beta : ℕ) (w : ℕ → ℕ) where
 
 -- ---- cells
 
-no_word : (n k : ℕ) → slice_index (replicate n 0) k ≡ 0
-no_word zero k = refl
-no_word (suc n) zero = refl
-no_word (suc n) (suc k) = no_word n k
-
-point_is : (s : Secret) → s.kind ≡ Point → secret_value s ≡ point_value s.alpha s.beta
+pub point_is : (s : Secret) → s.kind ≡ Point → secret_value s ≡ point_value s.alpha s.beta
 point_is s is = rw is refl
 
 pub point_told : (adds : Addends) (spec : CellSpec) (number : Row → ℕ) (rows : List Row) (s : Secret) (k : ℕ) → s.kind ≡ Point

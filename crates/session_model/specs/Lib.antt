@@ -1,3 +1,4 @@
 pub mod Draws
 pub mod Answers
+pub mod Cells
 pub mod Sessions

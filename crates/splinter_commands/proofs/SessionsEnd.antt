@@ -21,14 +21,14 @@ use Rattle.splinter_commands.specs.HeldSessions.{session_of}
 module _ (t : Traced) (words : List ℕ) where
   -- a provider's answer, as bytes
   abbrev pub own_answer : Provider → List ℕ
-  own_answer p = round_answer chacha p t.checked t.table t.params words
+  own_answer p = round_answer chacha p t.asked.checked t.table t.asked.params words
 
   -- and as a frame
   abbrev pub own_frame : Provider → AnswerFrame
-  own_frame p = answer_frame chacha p (own_key chacha (session_of t words) p) (key_frame chacha p t.checked t.table.shape t.params words) t.checked t.table
+  own_frame p = answer_frame chacha p (own_key chacha (session_of t words) p) (key_frame chacha p t.asked.checked t.table.shape t.asked.params words) t.asked.checked t.table
 
   -- the bytes of a round of these words
-  module _ (round : RoundOut) (of : IsRoundOf chacha t.checked t.table.shape t.params words round) where
+  module _ (round : RoundOut) (of : IsRoundOf chacha t.asked.checked t.table.shape t.asked.params words round) where
     pub left_is : round.left ≡ own_key chacha (session_of t words) Zero
     left_is = ap (λ (r : RoundOut). r.left) of.is
 
@@ -38,20 +38,20 @@ module _ (t : Traced) (words : List ℕ) where
     pub note_is : round.note ≡ own_note chacha (session_of t words)
     note_is = ap (λ (r : RoundOut). r.note) of.is
 
-    key_spelled : (p : Provider) → KeyFrameOf (own_key chacha (session_of t words) p) (key_frame chacha p t.checked t.table.shape t.params words)
-    key_spelled Zero = subst (λ (b : List ℕ). KeyFrameOf b (key_frame chacha Zero t.checked t.table.shape t.params words)) left_is of.left
-    key_spelled One = subst (λ (b : List ℕ). KeyFrameOf b (key_frame chacha One t.checked t.table.shape t.params words)) right_is of.right
+    key_spelled : (p : Provider) → KeyFrameOf (own_key chacha (session_of t words) p) (key_frame chacha p t.asked.checked t.table.shape t.asked.params words)
+    key_spelled Zero = subst (λ (b : List ℕ). KeyFrameOf b (key_frame chacha Zero t.asked.checked t.table.shape t.asked.params words)) left_is of.left
+    key_spelled One = subst (λ (b : List ℕ). KeyFrameOf b (key_frame chacha One t.asked.checked t.table.shape t.asked.params words)) right_is of.right
 
     -- they spell its frames
     pub round_spelled : IsSpelled chacha (session_of t words)
     round_spelled = record {
       keys = key_spelled;
-      note = subst (λ (b : List ℕ). NoteOf b (note chacha t.checked t.table.shape t.params words)) note_is of.note;
+      note = subst (λ (b : List ℕ). NoteOf b (note chacha t.asked.checked t.table.shape t.asked.params words)) note_is of.note;
     }
 
   -- the text of a session is that of its parts
   pub text_is : (zero one lines result text : List ℕ) → zero ≡ (own_frame Zero).words → one ≡ (own_frame One).words → lines ≡ round_text zero one
-      → result ≡ clear_text t.checked t.params t.table → text ≡ lines ++ result → text ≡ trace_text t words
+      → result ≡ clear_text t.asked.checked t.asked.params t.table → text ≡ lines ++ result → text ≡ trace_text t words
   unfolding trace_text
   text_is zero one lines result text first second begun ended whole = whole ∙ rw (begun, first, second, ended) refl
 

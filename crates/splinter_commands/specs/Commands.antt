@@ -34,7 +34,7 @@ use Rattle.splinter_commands.specs.Refusals.{name_of, or_provider_refusal, or_as
 
 -- the words that a provider answers in a session with these words drawn
 abbrev pub provider_words : Provider → Traced → List ℕ → List ℕ
-provider_words p t words = let frame = key_frame chacha p t.checked t.table.shape t.params words in answer_words chacha p frame.round frame.keys t.checked t.table
+provider_words p t words = let frame = key_frame chacha p t.asked.checked t.table.shape t.asked.params words in answer_words chacha p frame.round frame.keys t.asked.checked t.table
 
 -- words, each behind a space
 abbrev pub spaced : List ℕ → List ℕ
@@ -46,7 +46,7 @@ round_text zero one = codes "round 1\n0" ++ (spaced zero ++ (codes "\n1" ++ (spa
 
 -- the lines of the one round, and the text of the clear answer
 unfoldable pub trace_text : Traced → List ℕ → List ℕ
-trace_text t words = round_text (provider_words Zero t words) (provider_words One t words) ++ clear_text t.checked t.params t.table
+trace_text t words = round_text (provider_words Zero t words) (provider_words One t words) ++ clear_text t.asked.checked t.asked.params t.table
 
 -- which round of how many was begun
 abbrev pub begun_text : ℕ → List ℕ
@@ -56,16 +56,16 @@ begun_text rounds = codes "round 1 of " ++ (decimal rounds ++ codes "\n")
 
 -- `trace` draws the words of a session, and prints both providers' words and the clear answer
 unfoldable pub traced : Traced → Effect
-traced t = record { draws = words_taken t.checked t.table.shape t.params; files = []; prints = λ words. trace_text t words }
+traced t = record { draws = words_taken t.asked.checked t.table.shape t.asked.params; files = []; prints = λ words. trace_text t words }
 
 -- `keys` draws the words of a session, writes its note and both key files, and prints which round was begun
 unfoldable pub asked : KeysOrder → Question → Effect
 asked o q = record {
-  draws = words_taken q.checked q.shape q.params;
-  files = (o.note, λ words. note_bytes chacha q.checked q.shape q.params words)
-      ∷ (o.key_zero, λ words. key_bytes chacha Zero q.checked q.shape q.params words)
-      ∷ (o.key_one, λ words. key_bytes chacha One q.checked q.shape q.params words) ∷ [];
-  prints = λ words. begun_text (plan_of q.checked q.shape).rounds;
+  draws = words_taken q.asked.checked q.shape q.asked.params;
+  files = (o.note, λ words. note_bytes chacha q.asked.checked q.shape q.asked.params words)
+      ∷ (o.key_zero, λ words. key_bytes chacha Zero q.asked.checked q.shape q.asked.params words)
+      ∷ (o.key_one, λ words. key_bytes chacha One q.asked.checked q.shape q.asked.params words) ∷ [];
+  prints = λ words. begun_text (plan_of q.asked.checked q.shape).rounds;
 }
 
 -- the note and the key files of a round, in the order in which they are written
@@ -89,14 +89,14 @@ trace_ready o files = do
   question ← asked_in shape o.query o.parameters
   table ← table_in files o.table shape
   bounded ← or_provider_refusal Zero [] table.shape (or_sum_fault (sums_bounded table question.checked.spec.items))
-  Ok (traced (record { checked = question.checked; params = question.params; table = table }))
+  Ok (traced (record { asked = question; table = table }))
 
 -- what `keys` reads: the shape, and what the query and the parameters ask of it
 unfoldable pub keys_ready : KeysOrder → FileMap → Result Effect Refusal
 keys_ready o files = do
   shape ← shape_in files o.shape
   question ← asked_in shape o.query o.parameters
-  Ok (asked o (record { checked = question.checked; params = question.params; shape = shape }))
+  Ok (asked o (record { asked = question; shape = shape }))
 
 -- what `answer` reads: the shape, the table and the key frame, which is then answered
 unfoldable pub answer_ready : AnswerOrder → FileMap → Result Effect Refusal

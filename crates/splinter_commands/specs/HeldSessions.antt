@@ -15,7 +15,7 @@ Comes {A} step = (x : A) × (step ≡ Ok x)
 
 -- the session of what is traced, with these words drawn
 abbrev pub session_of : Traced → List ℕ → Session
-session_of t words = record { checked = t.checked; params = t.params; table = t.table; words = words }
+session_of t words = record { checked = t.asked.checked; params = t.asked.params; table = t.table; words = words }
 
 -- a file holds what a provider answers to its key file of the session
 abbrev pub HoldsAnswer : Session → Provider → List ℕ → FileMap → Type 0

@@ -13,20 +13,17 @@ ghost use Rattle.splinter_commands.specs.Questions.{IsQuestion};
 use crate::rounds::begin;
 use client_rounds::RoundOut;
 use command_words::KeysWords;
-use query_reader::{Checked, Params};
 use spl_outside::{Draw, Files};
 use spl_values::Shape;
 use splinter_status::{InputStop, Stopped};
-use splinter_steps::{Output, judge, read_shape, write_three};
+use splinter_steps::{Asked, Output, judge, read_shape, write_three};
 use std::alloc::{AllocError, Global};
 
-/// An accepted query that is built, its parameters, and the shape of the table that is asked.
+/// What is asked, and the shape of the tables that are asked.
 #[derive(Debug, Drop)]
 pub struct Question {
-    /// What is known of the query.
-    pub checked: Checked,
-    /// The codes of its parameters.
-    pub params: Params,
+    /// The query and its parameters.
+    pub asked: Asked,
     /// The shape of the tables that are asked.
     pub shape: Shape,
 }
@@ -46,11 +43,7 @@ fn read_question<F: Files>(
 {
     let shape = read_shape(alloc, files, words.shape)?;
     let asked = judge(alloc, &shape, words.query, &words.parameters)?;
-    Ok(Question {
-        checked: asked.checked,
-        params: asked.params,
-        shape,
-    })
+    Ok(Question { asked, shape })
 }
 
 /// Writes the note and the two key files of a round.
@@ -103,13 +96,7 @@ pub fn keys<F: Files, R: Draw>(
     ensures draws { Counts (R.faults draw.old) (R.faults draw.new) (IsErrOf result Stopped.DrawFault) }
 {
     let question = read_question(alloc, files, words)?;
-    let round = begin(
-        alloc,
-        draw,
-        &question.checked,
-        &question.params,
-        &question.shape,
-    )?;
+    let round = begin(alloc, draw, &question.asked, &question.shape)?;
     let text = begun_line(alloc, round.rounds)?;
     write_round(alloc, files, words, &round)?;
     Ok(text)

@@ -110,19 +110,19 @@ fn round_lines(alloc: Global, zero: &[u64], one: &[u64]) -> Result<Vec<u8>, Allo
 /// clauses are what is known.
 fn round_is_answered(traced: &Traced, round: &RoundOut)
     requires { IsTraced traced.now }
-    ensures zero { (words : List ℕ) → IsRoundOf chacha traced.now.checked traced.now.table.shape traced.now.params words round.now
-        → answered chacha Zero round.now.left traced.now.table ≡ Ok (round_answer chacha Zero traced.now.checked traced.now.table traced.now.params words) }
-    ensures one { (words : List ℕ) → IsRoundOf chacha traced.now.checked traced.now.table.shape traced.now.params words round.now
-        → answered chacha One round.now.right traced.now.table ≡ Ok (round_answer chacha One traced.now.checked traced.now.table traced.now.params words) }
-    ensures frames { (p : TheProvider) (words : List ℕ) → IsRoundOf chacha traced.now.checked traced.now.table.shape traced.now.params words round.now
-        → AnswerOf (round_answer chacha p traced.now.checked traced.now.table traced.now.params words)
-        (answer_frame chacha p (key_bytes chacha p traced.now.checked traced.now.table.shape traced.now.params words) (key_frame chacha p traced.now.checked traced.now.table.shape traced.now.params words) traced.now.checked traced.now.table) }
-    ensures ended { (words : List ℕ) → IsRoundOf chacha traced.now.checked traced.now.table.shape traced.now.params words round.now
-        → finished round.now.note (round_answer chacha Zero traced.now.checked traced.now.table traced.now.params words) (round_answer chacha One traced.now.checked traced.now.table traced.now.params words)
-        ≡ Ok (clear_text traced.now.checked traced.now.params traced.now.table) }
+    ensures zero { (words : List ℕ) → IsRoundOf chacha traced.now.asked.checked traced.now.table.shape traced.now.asked.params words round.now
+        → answered chacha Zero round.now.left traced.now.table ≡ Ok (round_answer chacha Zero traced.now.asked.checked traced.now.table traced.now.asked.params words) }
+    ensures one { (words : List ℕ) → IsRoundOf chacha traced.now.asked.checked traced.now.table.shape traced.now.asked.params words round.now
+        → answered chacha One round.now.right traced.now.table ≡ Ok (round_answer chacha One traced.now.asked.checked traced.now.table traced.now.asked.params words) }
+    ensures frames { (p : TheProvider) (words : List ℕ) → IsRoundOf chacha traced.now.asked.checked traced.now.table.shape traced.now.asked.params words round.now
+        → AnswerOf (round_answer chacha p traced.now.asked.checked traced.now.table traced.now.asked.params words)
+        (answer_frame chacha p (key_bytes chacha p traced.now.asked.checked traced.now.table.shape traced.now.asked.params words) (key_frame chacha p traced.now.asked.checked traced.now.table.shape traced.now.asked.params words) traced.now.asked.checked traced.now.table) }
+    ensures ended { (words : List ℕ) → IsRoundOf chacha traced.now.asked.checked traced.now.table.shape traced.now.asked.params words round.now
+        → finished round.now.note (round_answer chacha Zero traced.now.asked.checked traced.now.table traced.now.asked.params words) (round_answer chacha One traced.now.asked.checked traced.now.table traced.now.asked.params words)
+        ≡ Ok (clear_text traced.now.asked.checked traced.now.asked.params traced.now.table) }
 {
     // What a query and a table keep is known once they are read.
-    traced.checked.query.facts();
+    traced.asked.checked.query.facts();
     let _ = traced.table.shape();
     chacha_is_pure();
     own_keys_are_answered();
@@ -140,8 +140,8 @@ pub fn session_text<T: Threads + Sync, G: Gate + Sync>(
 ) -> Result<Vec<u8>, AllocError>
     requires workers { IsWorkers workers }
     requires traced { IsTraced traced.now }
-    requires round { IsRound chacha traced.now.checked traced.now.table.shape traced.now.params round.now }
-    ensures { (words : List ℕ) → IsRoundOf chacha traced.now.checked traced.now.table.shape traced.now.params words round.now → IfOk result (λ text. text.items ≡ trace_text traced.now words) }
+    requires round { IsRound chacha traced.now.asked.checked traced.now.table.shape traced.now.asked.params round.now }
+    ensures { (words : List ℕ) → IsRoundOf chacha traced.now.asked.checked traced.now.table.shape traced.now.asked.params words round.now → IfOk result (λ text. text.items ≡ trace_text traced.now words) }
 {
     round_is_answered(traced, round);
     let table = &traced.table;

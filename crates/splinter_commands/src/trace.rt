@@ -19,7 +19,6 @@ use crate::sessions::session_text;
 use command_words::TraceWords;
 use provider_core::ProviderFault;
 use query_reader::laws::accepted_has_cells;
-use query_reader::{Checked, Params};
 use share_eval::Gate;
 use spl_outside::{Draw, Files};
 use spl_values::Table;
@@ -30,13 +29,11 @@ use std::alloc::Global;
 use std::thread::Threads;
 use sum_bounds::check_sums;
 
-/// An accepted query that is built, its parameters, and a table of its schema whose sums are within their bounds.
+/// What is asked, and a table of its schema whose sums are within their bounds.
 #[derive(Debug, Drop)]
 pub struct Traced {
-    /// What is known of the query.
-    pub checked: Checked,
-    /// The codes of its parameters.
-    pub params: Params,
+    /// The query and its parameters.
+    pub asked: Asked,
     /// The table that both providers hold.
     pub table: Table,
 }
@@ -79,11 +76,7 @@ fn read_traced<F: Files>(
     let asked = judge(alloc, &shape, words.query, &words.parameters)?;
     let table = read_table(alloc, files, words.table, &shape)?;
     check_bounds(alloc, &asked, &table)?;
-    Ok(Traced {
-        checked: asked.checked,
-        params: asked.params,
-        table,
-    })
+    Ok(Traced { asked, table })
 }
 
 /// The command, up to the text that it prints.
@@ -106,12 +99,6 @@ pub fn trace<T: Threads + Sync, F: Files, R: Draw, G: Gate + Sync>(
     ensures draws { Counts (R.faults draw.old) (R.faults draw.new) (IsErrOf result Stopped.DrawFault) }
 {
     let traced = read_traced(alloc, files, words)?;
-    let round = begin(
-        alloc,
-        draw,
-        &traced.checked,
-        &traced.params,
-        traced.table.shape(),
-    )?;
+    let round = begin(alloc, draw, &traced.asked, traced.table.shape())?;
     Ok(session_text(rt, alloc, &traced, &round, words.workers, gate)?)
 }

@@ -1,6 +1,5 @@
 -- What a query and its parameters ask of a table.
-use Rattle.std.specs.Prelude.{◌≡◌, ℕ, true, List, Result, Ok, Err}
-use Rattle.std.specs.List.{list_all}
+use Rattle.std.specs.Prelude.{◌≡◌, ℕ, List, Result, Ok, Err, if◌then◌else◌}
 use Rattle.spl_words.specs.Results.{◌>>=◌}
 use Rattle.spl_values.specs.Shapes.{ShapeParts}
 use Rattle.query_parser.specs.declared.fault.QueryFault.{QueryFault}
@@ -10,8 +9,7 @@ use Rattle.query_reader.specs.declared.checked.Checked.{Checked}
 use Rattle.query_reader.specs.declared.params.ParamFault.{ParamFault}
 use Rattle.judged_queries.specs.Queries.{checked_in}
 use Rattle.private_plan.specs.declared.plans.PlanKind.{PlanKind}
-use Rattle.private_plan.specs.declared.plans.PlanKind.TheVariants as kind
-use Rattle.private_plan.specs.Plans.{plan_of, is_sum}
+use Rattle.private_plan.specs.Plans.{IsBuilt, is_built, plan_of}
 use Rattle.splinter_status.specs.declared.stops.Refusal.{Refusal}
 use Rattle.splinter_status.specs.declared.stops.Refusal.TheVariants as refusal
 use Rattle.splinter_status.specs.declared.status.Part.TheVariants as part
@@ -24,8 +22,7 @@ or_query_refusal (Err fault) = Err (refusal.Query fault)
 
 -- the refusal of a query whose plan isn't built
 abbrev pub if_built : PlanKind → Result (Unit {0}) Refusal
-if_built kind.Sum = Ok tt
-if_built _ = Err (refusal.NotBuilt part.Plan)
+if_built k = if is_built k then Ok tt else Err (refusal.NotBuilt part.Plan)
 
 -- the codes of parameters, or the refusal of words that aren't their values
 abbrev pub or_param_refusal : Result (List ℕ) ParamFault → Result (List ℕ) Refusal
@@ -40,9 +37,9 @@ asked_in shape text words = do
   params ← or_param_refusal (params_of_words checked.query shape.schema words)
   Ok (record { checked = checked; params = params })
 
--- an accepted query of counts, sums and means, and its parameters, given as words
+-- an accepted query whose plan is built, and its parameters, given as words
 pub record IsAsked (shape : ShapeParts) (a : Asked) : Type 0 where
   pub checked : IsCheckedFor a.checked shape.schema
-  pub sums : list_all is_sum a.checked.spec.items ≡ true
+  pub built : IsBuilt a.checked shape.schema.columns
   pub params : AreParamsFor a.checked shape.schema a.params
   pub words : (words : List (List ℕ)) × (params_of_words a.checked.query shape.schema words ≡ Ok a.params)

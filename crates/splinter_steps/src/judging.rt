@@ -1,23 +1,22 @@
 //! Judging a query and its parameters.
-ghost use Rattle.std.specs.Prelude.{◌≡◌, map, true, IfOk, IfErr, IsErrOf};
+ghost use Rattle.std.specs.Prelude.{◌≡◌, map, IfOk, IfErr, IsErrOf};
 ghost use Rattle.std.specs.String.{string_bytes};
-ghost use Rattle.std.specs.List.{list_all};
 ghost use Rattle.query_reader.specs.Accepted.{IsCheckedFor};
 ghost use Rattle.query_reader.specs.Params.{AreParamsFor, params_of_words as params_in_words};
 ghost use Rattle.judged_queries.specs.Queries.{checked_in};
-ghost use Rattle.private_plan.specs.Plans.{plan_of, is_sum};
+ghost use Rattle.private_plan.specs.Plans.{IsBuilt, plan_of};
 ghost use Rattle.splinter_status.specs.Phases.{InputGives, StopsAtFiles};
 ghost use Rattle.splinter_steps.specs.Questions.{asked_in, if_built, or_param_refusal, or_query_refusal, IsAsked};
 ghost use Rattle.splinter_steps.specs.Stops.{stop_of_params};
 
 use judged_queries::{judge_query, judge_words};
-use private_plan::{PlanKind, plan};
+use private_plan::{is_built, plan};
 use query_reader::{Checked, ParamFault, Params, QueryFault};
 use spl_values::Shape;
 use splinter_status::{InputStop, Part, Refusal};
 use std::alloc::Global;
 
-/// An accepted query of counts, sums and means, and its parameters.
+/// An accepted query whose plan is built, and its parameters.
 #[derive(Debug, Drop)]
 pub struct Asked {
     /// What is known of the query.
@@ -40,22 +39,21 @@ fn checked_query(alloc: Global, shape: &Shape, text: &str) -> Result<Checked, In
     }
 }
 
-/// Refuses a query whose plan isn't built yet: one that isn't of counts, sums and means alone.
+/// Refuses a query whose plan isn't built yet.
 fn check_built(alloc: Global, checked: &Checked, shape: &Shape) -> Result<(), InputStop>
     requires { IsCheckedFor checked.now shape.now.schema }
     ensures gives { InputGives (λ built. built) result (if_built (plan_of checked.now shape.now).kind) }
-    ensures sums { IfOk result (λ _. list_all is_sum checked.now.spec.items ≡ true) }
+    ensures built { IfOk result (λ _. IsBuilt checked.now shape.now.schema.columns) }
     ensures refusals { IfErr result StopsAtFiles }
     ensures no_fault { IsErrOf result InputStop.FileFault → ⊥ }
 {
     let Ok(plan) = plan(alloc, checked, shape) else {
         return Err(InputStop::OutOfMemory);
     };
-    match plan.kind {
-        PlanKind::Sum => Ok(()),
-        PlanKind::Point | PlanKind::Aligned | PlanKind::Position => {
-            Err(InputStop::Refused(Refusal::NotBuilt(Part::Plan)))
-        }
+    if is_built(plan.kind) {
+        Ok(())
+    } else {
+        Err(InputStop::Refused(Refusal::NotBuilt(Part::Plan)))
     }
 }
 

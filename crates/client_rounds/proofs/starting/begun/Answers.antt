@@ -1,7 +1,7 @@
 use Rattle.std.proofs.Common.{◌∙◌, length, ap, arith, subst}
 use Rattle.spl_words.specs.declared.provider.Provider.TheVariants.{Zero, One}
 use Rattle.spl_values.specs.Shapes.{IsShape}
-use Rattle.client_rounds.specs.Asked.{IsAsked}
+use Rattle.client_rounds.specs.WellPut.{IsWellPut}
 use Rattle.private_plan.proofs.FirstTrees.{secret_count}
 use Rattle.client_rounds.proofs.Begun.{words_for, session_back, roots_again}
 use Rattle.client_rounds.proofs.FrameLengths.{round_is}
@@ -26,7 +26,7 @@ returns-in-Ok-round_with-clause-lengths g c =
     let roots = c.in_ok-drawn.drawn.roots in
     let words = words_for session roots in
     let of = c.in-Ok-round_with.ensures words (session_back session roots) (roots_again session c.in-Ok-round_secrets.secrets roots count) in
-    let asked : IsAsked c.args.checked.now c.args.shape.now c.args.params.now = record { valid = subst IsShape c.shape.view_is c.shape.invariant; form = c.facts.ensures; accepted = c.requires.accepted; known = c.requires.params } in
+    let asked : IsWellPut c.args.checked.now c.args.shape.now c.args.params.now = record { valid = subst IsShape c.shape.view_is c.shape.invariant; form = c.facts.ensures; accepted = c.requires.accepted; known = c.requires.params } in
     let e = g.E.Expander.meaning c.args.expander.now in
     let round = c.in-Ok-round_with.round in
     (round_is e Zero c.args.checked.now c.args.shape.now c.args.params.now words round.left asked of.left, round_is e One c.args.checked.now c.args.shape.now c.args.params.now words round.right asked of.right)

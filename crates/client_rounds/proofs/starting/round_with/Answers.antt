@@ -3,7 +3,7 @@ use Rattle.spl_words.specs.declared.provider.Provider.TheVariants.{Zero, One}
 use Rattle.spl_values.specs.Shapes.{IsShape}
 use Rattle.key_frames.specs.Frames.{FrameAllowed}
 use Rattle.private_plan.specs.declared.plans.Plan.{Plan}
-use Rattle.client_rounds.specs.Asked.{IsAsked}
+use Rattle.client_rounds.specs.WellPut.{IsWellPut}
 use Rattle.private_plan.proofs.FirstTrees.{secret_count}
 use Rattle.client_rounds.proofs.Allowed.{frame_allowed}
 use Rattle.client_rounds.proofs.Written.{made_for, has_params}
@@ -17,19 +17,19 @@ round_frames-requires-clause-trees g c =
 
 pub frame_bytes-requires : goal.frame_bytes-requires
 frame_bytes-requires g c =
-    let asked : IsAsked c.args.checked.now c.args.shape.now c.args.params.now = record { valid = subst IsShape c.shape.view_is c.shape.invariant; form = c.facts.ensures; accepted = c.requires.accepted; known = c.requires.params } in
+    let asked : IsWellPut c.args.checked.now c.args.shape.now c.args.params.now = record { valid = subst IsShape c.shape.view_is c.shape.invariant; form = c.facts.ensures; accepted = c.requires.accepted; known = c.requires.params } in
     let may = made_for c.args.checked.now c.args.shape.now c.args.params.now asked c.in_ok-print_query.field-0 c.args.secrets.now c.args.drawn.now.roots c.in_ok-print_query.ensures.text c.requires.secrets c.requires.roots in
     subst FrameAllowed (sym c.in_ok-zero.ensures.zero) (frame_allowed _ Zero c.args.drawn.now.session 1 0 c.in_ok-print_query.field-0 c.in_ok-clone.field-0 c.args.secrets.now c.args.drawn.now.roots may)
 
 pub frame_bytes-requires-2 : goal.frame_bytes-requires-2
 frame_bytes-requires-2 g c =
-    let asked : IsAsked c.args.checked.now c.args.shape.now c.args.params.now = record { valid = subst IsShape c.shape.view_is c.shape.invariant; form = c.facts.ensures; accepted = c.requires.accepted; known = c.requires.params } in
+    let asked : IsWellPut c.args.checked.now c.args.shape.now c.args.params.now = record { valid = subst IsShape c.shape.view_is c.shape.invariant; form = c.facts.ensures; accepted = c.requires.accepted; known = c.requires.params } in
     let may = made_for c.args.checked.now c.args.shape.now c.args.params.now asked c.in_ok-print_query.field-0 c.args.secrets.now c.args.drawn.now.roots c.in_ok-print_query.ensures.text c.requires.secrets c.requires.roots in
     subst FrameAllowed (sym c.in_ok-zero.ensures.one) (frame_allowed _ One c.args.drawn.now.session 1 0 c.in_ok-print_query.field-0 c.in_ok-clone.field-0 c.args.secrets.now c.args.drawn.now.roots may)
 
 pub note_bytes-requires-clause-some : goal.note_bytes-requires-clause-some
 note_bytes-requires-clause-some g c =
-    let asked : IsAsked c.args.checked.now c.args.shape.now c.args.params.now = record { valid = subst IsShape c.shape.view_is c.shape.invariant; form = c.facts.ensures; accepted = c.requires.accepted; known = c.requires.params } in
+    let asked : IsWellPut c.args.checked.now c.args.shape.now c.args.params.now = record { valid = subst IsShape c.shape.view_is c.shape.invariant; form = c.facts.ensures; accepted = c.requires.accepted; known = c.requires.params } in
     has_params c.args.checked.now c.args.shape.now c.args.params.now asked
 
 pub returns : goal.returns

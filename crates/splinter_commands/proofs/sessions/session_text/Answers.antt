@@ -28,8 +28,8 @@ result_of-requires g c =
     let b = own_answer t words One in
     let zero = c.in_ok-zero.ensures a (same_answer t Zero c.as_slice-left.result.now round.left a c.as_slice-left.ensures (c.round_is_answered.ensures.zero words of)) in
     let one = c.in_ok-one.ensures b (same_answer t One c.as_slice-right.result.now round.right b c.as_slice-right.ensures (c.round_is_answered.ensures.one words of)) in (
-      clear_text t.checked t.params t.table,
-      same_end c.as_slice.result.now c.deref.result.now c.deref-2.result.now round.note a b (clear_text t.checked t.params t.table) c.as_slice.ensures (c.deref.ensures.value ∙ zero) (c.deref-2.ensures.value ∙ one)
+      clear_text t.asked.checked t.asked.params t.table,
+      same_end c.as_slice.result.now c.deref.result.now c.deref-2.result.now round.note a b (clear_text t.asked.checked t.asked.params t.table) c.as_slice.ensures (c.deref.ensures.value ∙ zero) (c.deref-2.ensures.value ∙ one)
           (c.round_is_answered.ensures.ended words of),
     )
 
@@ -57,7 +57,7 @@ returns g c = λ words of.
     let round = c.args.round.now in
     let a = own_answer t words Zero in
     let b = own_answer t words One in
-    let text = clear_text t.checked t.params t.table in
+    let text = clear_text t.asked.checked t.asked.params t.table in
     let zero = c.in_ok-zero.ensures a (same_answer t Zero c.as_slice-left.result.now round.left a c.as_slice-left.ensures (c.round_is_answered.ensures.zero words of)) in
     let one = c.in_ok-one.ensures b (same_answer t One c.as_slice-right.result.now round.right b c.as_slice-right.ensures (c.round_is_answered.ensures.one words of)) in
     let zero_words = c.in_ok-zero-2.ensures (own_frame t words Zero) (same_frame c.deref-3.result.now a (own_frame t words Zero) (c.deref-3.ensures.value ∙ zero) (c.round_is_answered.ensures.frames Zero words of)) in

@@ -15,6 +15,6 @@ returns-in_err-check_bounds-clause-gives g c =
 
 pub returns-clause-traced : goal.returns-clause-traced
 returns-clause-traced g c = record {
-  asked = subst (λ s. IsAsked s (record { checked = c.in_ok-asked.asked.checked; params = c.in_ok-asked.asked.params })) (sym c.in_ok-table.ensures.shape) c.in_ok-asked.ensures.asked;
+  asked = subst (λ s. IsAsked s c.in_ok-asked.asked) (sym c.in_ok-table.ensures.shape) c.in_ok-asked.ensures.asked;
   bounded = c.in_ok-check_bounds.ensures.bounded;
 }

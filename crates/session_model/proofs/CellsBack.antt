@@ -1,0 +1,242 @@
+-- The words of both answers add to the words of the cells that come back.
+use Rattle.std.proofs.Common.{◌≡◌, ℕ, ◌+◌, ◌-◌, ◌*◌, ◌/◌, ◌^◌, ◌<◌, ◌≤◌, Bool, true, ◌&&◌, eqb, List, [], ◌∷◌, length, take, drop, inl, inr, refl, sym, ap, ap₂, subst, ◌∙◌, arith}
+use Rattle.std.specs.Prelude.{map, slice_index}
+use Rattle.std.specs.List.{AllByRecursion, filter, flat_map, list_all, range_with_len}
+use Rattle.std.proofs.Math.Nat.{mod-eq_of_lt}
+use Rattle.std.proofs.lemmas.List.{append-nil, length-map}
+use Rattle.spl_words.specs.Words.{plus}
+use Rattle.spl_words.specs.Folds.{fold_word, fold_words}
+use Rattle.spl_words.specs.Secrets.{Secret, secret_tree, secret_value}
+use Rattle.spl_words.specs.declared.provider.Provider.{Provider}
+use Rattle.spl_words.specs.declared.provider.Provider.TheVariants.{Zero, One}
+use Rattle.spl_values.specs.Tables.{TableParts, IsTable}
+use Rattle.cell_merge.specs.Rows.{Row}
+use Rattle.cell_merge.specs.Cells.{Addends, cell, cell_width}
+use Rattle.cell_merge.specs.TableRows.{adds_in, rows_of}
+use Rattle.cell_merge.proofs.Lists.{length-filter-le}
+use Rattle.seed_expansion.specs.Expanders.{Meaning, IsPure}
+use Rattle.query_grammar.specs.Canonical.{IsQuery}
+use Rattle.query_reader.specs.declared.checked.Checked.{Checked}
+use Rattle.query_reader.specs.Accepted.{IsCheckedFor}
+use Rattle.query_reader.specs.Matching.{is_kept, matching_rows, some_branch_holds}
+use Rattle.query_reader.specs.Params.{AreParamsFor}
+use Rattle.query_reader.proofs.Known.{checked_fits}
+use Rattle.clear_sql.proofs.MatchingCells.{filter_filter, length-rows_of}
+use Rattle.count_sum.specs.SumPairs.{joined_key, sum_pairs}
+use Rattle.key_frames.specs.declared.keys.Key.{Key}
+use Rattle.key_frames.specs.Trees.{key_list, key_shares, key_tree}
+use Rattle.key_frames.proofs.TreeLaws.{trees_same}
+use Rattle.private_plan.specs.declared.plans.PlanKind.{PlanKind}
+use Rattle.private_plan.specs.declared.plans.PlanKind.TheVariants as kind
+use Rattle.private_plan.specs.Plans.{IsBuilt, brings_cells, is_built, is_sum, kind_of, last_bits, plan_of, words_back}
+use Rattle.private_plan.specs.Rounds.{Fold, first_round, first_tree, folds_in, secrets_in}
+use Rattle.private_plan.proofs.Accepted.{secrets_laid}
+use Rattle.private_plan.proofs.FirstTrees.{first_deep}
+use Rattle.private_plan.proofs.Telling.{are_points}
+use Rattle.session_model.specs.Answers.{answer_words, entries_of, entry_width, words_of_fold}
+use Rattle.session_model.specs.Cells.{ArePicked, cells_back, each_told, first_answer, rows_back, rows_for, told_rows}
+use Rattle.session_model.proofs.Answers.{answers_add, one_fold}
+use Rattle.session_model.proofs.CellSums.{length-cell, same_lengths, word_at, wordwise}
+use Rattle.session_model.proofs.CellWords.{AreWords, cell_small, filter_few, rows_are, word_small, words_both}
+use Rattle.session_model.proofs.KeptRows.{kept_below}
+use Rattle.session_model.proofs.Plans.{built_kinds, cell_folds, folds_are, points_deep, sums_of_kind}
+use Rattle.session_model.proofs.TreeWords.{both_words, by_tree, length-tree_words, length-words, tree_words, trees_add}
+
+-- ---- rows
+
+told_picked : (checked : Checked) (t : TableParts) (s : Secret) → ArePicked t (told_rows checked t s)
+told_picked checked t s =
+    let test : Row → Bool = λ r. eqb (secret_value s (joined_key checked t r / 2 ^ (checked.bits - s.depth))) 1 in
+    ((λ r. is_kept checked.public r && test r), filter_filter (is_kept checked.public) test (rows_of t))
+
+each_picked : (checked : Checked) (t : TableParts) (ss : List Secret) → AllByRecursion (ArePicked t) (map (told_rows checked t) ss)
+each_picked checked t [] = tt
+each_picked checked t (s ∷ ss) = (told_picked checked t s, each_picked checked t ss)
+
+-- each cell that comes back is one of rows of the table that pass a test
+pub back_picked : (checked : Checked) (t : TableParts) (params : List ℕ) → AllByRecursion (ArePicked t) (rows_back checked t params)
+unfolding rows_back
+back_picked checked t params = by_kind (kind_of checked t.shape.schema.columns)
+  where
+    by_kind : (k : PlanKind) → AllByRecursion (ArePicked t) (rows_for k checked t params)
+    by_kind kind.Sum =
+        let holds = some_branch_holds checked.branches checked.columns checked.range params in
+        (((λ r. is_kept checked.public r && holds r), filter_filter (is_kept checked.public) holds (rows_of t)), tt)
+    by_kind kind.Point = each_picked checked t _
+    by_kind kind.Aligned = each_picked checked t _
+    by_kind kind.Position = tt
+
+picked_few : (t : TableParts) (rows : List Row) → ArePicked t rows → length rows ≤ length t.rows
+picked_few t rows is =
+    let short = length-filter-le is.0 (rows_of t) in
+    let count = length-rows_of t in
+    let same = ap length is.1 in
+    omega (arith, short, count, same)
+
+pub each_few : (t : TableParts) (back : List (List Row)) → AllByRecursion (ArePicked t) back → AllByRecursion (λ rows. length rows ≤ length t.rows) back
+each_few t [] each = tt
+each_few t (rows ∷ back) each = (picked_few t rows each.0, each_few t back each.1)
+
+-- ---- their cells
+
+module _ (checked : Checked) (t : TableParts) (valid : IsTable t) (accepted : IsCheckedFor checked t.shape.schema) where
+  abbrev adds : Addends
+  adds = adds_in t.shape.schema.columns
+
+  picked_small : (rows : List Row) → ArePicked t rows → AreWords (cell adds checked.spec rows)
+  picked_small rows is =
+      let columns = t.shape.schema.columns in
+      let fits = checked_fits checked t.shape.schema accepted in
+      let count = length-rows_of t in
+      let few : length (rows_of t) < 2 ^ 64 = omega (arith, count, valid.count, valid.shape.few) in
+      subst (λ l. AreWords (cell adds checked.spec l)) (sym is.1) (cell_small columns adds checked.spec (filter is.0 (rows_of t)) fits.kept (filter_few columns is.0 (rows_of t) (rows_are t valid, few)))
+
+  each_small : (back : List (List Row)) → AllByRecursion (ArePicked t) back → AreWords (flat_map (cell adds checked.spec) back)
+  each_small [] each = tt
+  each_small (rows ∷ back) each = words_both (cell adds checked.spec rows) (flat_map (cell adds checked.spec) back) (picked_small rows each.0) (each_small back each.1)
+
+  pub cells_small : (params : List ℕ) → AreWords (cells_back checked t params)
+  cells_small params = each_small (rows_back checked t params) (back_picked checked t params)
+
+-- what comes back of a sum are the matching rows
+pub sum_rows : (checked : Checked) (t : TableParts) (params : List ℕ) → kind_of checked t.shape.schema.columns ≡ kind.Sum → rows_back checked t params ≡ matching_rows checked params t ∷ []
+unfolding rows_back
+sum_rows checked t params sum = ap (λ k. rows_for k checked t params) sum
+
+-- and else those that each secret tells
+pub told_back : (checked : Checked) (t : TableParts) (params : List ℕ) → brings_cells (kind_of checked t.shape.schema.columns) ≡ true → rows_back checked t params ≡ each_told checked t params
+unfolding rows_back
+told_back checked t params brings = by_kind (kind_of checked t.shape.schema.columns) brings
+  where
+    by_kind : (k : PlanKind) → brings_cells k ≡ true → rows_for k checked t params ≡ each_told checked t params
+    by_kind kind.Sum brings = absurd cc
+    by_kind kind.Point brings = refl
+    by_kind kind.Aligned brings = refl
+    by_kind kind.Position brings = absurd cc
+
+-- ---- answers
+
+fold_words_small : (f : ℕ → ℕ) (entries : List (ℕ × List ℕ)) (ks : List ℕ) → AreWords (map (fold_word f entries) ks)
+fold_words_small f entries [] = tt
+fold_words_small f entries (k ∷ ks) = (omega arith, fold_words_small f entries ks)
+
+folds_small : (e : Meaning) (p : Provider) (tree : ℕ) (keys : List Key) (checked : Checked) (t : TableParts) (folds : List Fold) → AreWords (flat_map (words_of_fold e p tree keys checked t) folds)
+folds_small e p tree keys checked t [] = tt
+folds_small e p tree keys checked t (f ∷ folds) =
+    words_both (words_of_fold e p tree keys checked t f) (flat_map (words_of_fold e p tree keys checked t) folds) (fold_words_small (key_shares e p (tree + f.first) (take f.count (drop f.first keys))) (entries_of checked t f.entries) (range_with_len 0 (entry_width checked f.entries))) (folds_small e p tree keys checked t folds)
+
+pub answers_small : (e : Meaning) (p : Provider) (round : ℕ) (keys : List Key) (checked : Checked) (t : TableParts) → AreWords (answer_words e p round keys checked t)
+unfolding answer_words
+answers_small e p round keys checked t = let plan = plan_of checked t.shape in folds_small e p (first_tree plan round) keys checked t (folds_in plan round)
+
+module _ (checked : Checked) (t : TableParts) (params : List ℕ) (roots : List (ℕ × ℕ)) (valid : IsTable t) (accepted : IsCheckedFor checked t.shape.schema) (form : IsQuery checked.query)
+    (known : AreParamsFor checked t.shape.schema params) (same : length roots ≡ length (secrets_in checked t.shape params first_round)) where
+  abbrev asked : List Secret
+  asked = secrets_in checked t.shape params first_round
+
+  abbrev the_kind : PlanKind
+  the_kind = kind_of checked t.shape.schema.columns
+
+  abbrev spec_cell : List Row → List ℕ
+  spec_cell = cell (adds_in t.shape.schema.columns) checked.spec
+
+  laid : map secret_tree asked ≡ (plan_of checked t.shape).first
+  laid = secrets_laid checked t.shape params accepted form known
+
+  keys_count : (e : Meaning) (p : Provider) → length (key_list e p 0 asked roots) ≡ length (plan_of checked t.shape).first
+  keys_count e p = sym (length-map (key_list e p 0 asked roots) key_tree) ∙ ap length (trees_same e p 0 asked roots same ∙ laid)
+
+  -- an answer to a sum
+  sum_answer : (e : Meaning) (p : Provider) → the_kind ≡ kind.Sum → first_answer e p checked t params roots ≡ fold_words (key_shares e p 0 (key_list e p 0 asked roots)) (sum_pairs checked t) (cell_width checked.spec)
+  sum_answer e p sum = one_fold e p 1 (key_list e p 0 asked roots) checked t sum refl (keys_count e p)
+
+  -- an answer of trees that bring a cell each
+  tree_answer : (e : Meaning) (p : Provider) → brings_cells the_kind ≡ true → first_answer e p checked t params roots ≡ tree_words checked t e p 0 asked roots
+  unfolding answer_words
+  tree_answer e p brings =
+      let keys = key_list e p 0 asked roots in
+      let trees = (plan_of checked t.shape).first in
+      let first = first_deep checked t.shape params accepted form valid.shape.schema in
+      ap (λ (fs : List Fold). flat_map (words_of_fold e p 0 keys checked t) fs) (folds_are checked.bits the_kind trees brings first (points_deep checked t.shape) ∙ ap (λ ts. cell_folds checked.bits ts) (sym laid))
+      ∙ by_tree checked t e p keys 0 asked roots same refl
+
+  -- ---- how long they are
+
+  sum_back : the_kind ≡ kind.Sum → cells_back checked t params ≡ spec_cell (matching_rows checked params t)
+  sum_back sum = ap (λ l. flat_map spec_cell l) (sum_rows checked t params sum) ∙ append-nil (spec_cell (matching_rows checked params t))
+
+  tree_back : brings_cells the_kind ≡ true → cells_back checked t params ≡ flat_map spec_cell (each_told checked t params)
+  tree_back brings = ap (λ l. flat_map spec_cell l) (told_back checked t params brings)
+
+  pub answer_length : (e : Meaning) (p : Provider) → IsBuilt checked t.shape.schema.columns → length (first_answer e p checked t params roots) ≡ length (cells_back checked t params)
+  answer_length e p built =
+      elim (built_kinds the_kind built) [
+        | inl sum ↦
+            ap length (sum_answer e p sum)
+            ∙ (length-words (fold_word (key_shares e p 0 (key_list e p 0 asked roots)) (sum_pairs checked t)) (cell_width checked.spec)
+            ∙ sym (ap length (sum_back sum) ∙ length-cell (adds_in t.shape.schema.columns) checked.spec (matching_rows checked params t)))
+        | inr brings ↦ ap length (tree_answer e p brings) ∙ (length-tree_words checked t e p 0 asked roots same ∙ ap length (sym (tree_back brings)))
+      ]
+
+  -- ---- what they add to
+
+  module _ (e : Meaning) (pure : IsPure e) where
+    sums_add : the_kind ≡ kind.Sum → wordwise (first_answer e Zero checked t params roots) (first_answer e One checked t params roots) ≡ cells_back checked t params
+    sums_add sum =
+        let rows = matching_rows checked params t in
+        let width = cell_width checked.spec in
+        let f = fold_word (key_shares e Zero 0 (key_list e Zero 0 asked roots)) (sum_pairs checked t) in
+        let g = fold_word (key_shares e One 0 (key_list e One 0 asked roots)) (sum_pairs checked t) in
+        let back = spec_cell rows in
+        let whole : length back ≡ width = length-cell (adds_in t.shape.schema.columns) checked.spec rows in
+        let small : AreWords back = subst (λ (l : List ℕ). AreWords l) (sum_back sum) (cells_small checked t valid accepted params) in
+        let sums : list_all is_sum checked.spec.items ≡ true = sums_of_kind (list_all is_sum checked.spec.items) checked.range (last_bits t.shape.schema.columns checked.columns) sum in
+        let each : (k : ℕ) → k < length back → plus (f k) (g k) ≡ slice_index back k =
+        λ k here. answers_add e pure checked t params roots valid accepted form known sums same k (omega (arith, here, whole)) ∙ mod-eq_of_lt (word_small back k small here) in
+        ap₂ wordwise (sum_answer e Zero sum) (sum_answer e One sum) ∙ (both_words f g back width whole each ∙ sym (sum_back sum))
+
+    cells_add : brings_cells the_kind ≡ true → wordwise (first_answer e Zero checked t params roots) (first_answer e One checked t params roots) ≡ cells_back checked t params
+    cells_add brings =
+        let points = are_points checked t.shape params valid.shape.schema accepted form known brings in
+        ap₂ wordwise (tree_answer e Zero brings) (tree_answer e One brings)
+        ∙ (trees_add checked t e pure (kept_below checked t valid accepted) (λ s. picked_small checked t valid accepted (told_rows checked t s) (told_picked checked t s)) 0 asked roots same points ∙ sym (tree_back brings))
+
+    -- word by word they add to the cells that come back
+    pub both_add : IsBuilt checked t.shape.schema.columns → wordwise (first_answer e Zero checked t params roots) (first_answer e One checked t params roots) ≡ cells_back checked t params
+    both_add built =
+        elim (built_kinds the_kind built) [
+          | inl sum ↦ sums_add sum
+          | inr brings ↦ cells_add brings
+        ]
+
+    pub word_added : IsBuilt checked t.shape.schema.columns → (k : ℕ) → k < length (cells_back checked t params)
+        → plus (slice_index (first_answer e Zero checked t params roots) k) (slice_index (first_answer e One checked t params roots) k) ≡ slice_index (cells_back checked t params) k
+    word_added built k here =
+        let zero_long = answer_length e Zero built in
+        let one_long = answer_length e One built in
+        sym (word_at (first_answer e Zero checked t params roots) (first_answer e One checked t params roots) k (omega (arith, here, zero_long)) (omega (arith, here, one_long)))
+        ∙ ap (λ l. slice_index l k) (both_add built)
+
+-- ---- how many words come back
+
+module _ (checked : Checked) (t : TableParts) (params : List ℕ) (accepted : IsCheckedFor checked t.shape.schema) (form : IsQuery checked.query) (known : AreParamsFor checked t.shape.schema params) where
+  abbrev the_cell : List Row → List ℕ
+  the_cell = cell (adds_in t.shape.schema.columns) checked.spec
+
+  told_words : length (flat_map the_cell (each_told checked t params)) ≡ length (plan_of checked t.shape).first * cell_width checked.spec
+  told_words =
+      let asked = secrets_in checked t.shape params first_round in
+      let trees : length asked ≡ length (plan_of checked t.shape).first = sym (length-map asked secret_tree) ∙ ap length (secrets_laid checked t.shape params accepted form known) in
+      same_lengths the_cell (cell_width checked.spec) (length-cell (adds_in t.shape.schema.columns) checked.spec) (each_told checked t params)
+      ∙ ap (λ n. n * cell_width checked.spec) (length-map asked (told_rows checked t) ∙ trees)
+
+  words_by_kind : (k : PlanKind) → is_built k ≡ true → length (flat_map the_cell (rows_for k checked t params)) ≡ words_back k (length (plan_of checked t.shape).first) (cell_width checked.spec)
+  words_by_kind kind.Sum built = ap length (append-nil (the_cell (matching_rows checked params t))) ∙ length-cell (adds_in t.shape.schema.columns) checked.spec (matching_rows checked params t)
+  words_by_kind kind.Point built = told_words
+  words_by_kind kind.Aligned built = told_words
+  words_by_kind kind.Position built = absurd cc
+
+  -- as many words as the plan tells
+  pub words_planned : IsBuilt checked t.shape.schema.columns → length (cells_back checked t params) ≡ (plan_of checked t.shape).first_words
+  unfolding rows_back
+  words_planned built = words_by_kind (kind_of checked t.shape.schema.columns) built
