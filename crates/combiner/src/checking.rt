@@ -5,7 +5,7 @@ ghost use Rattle.spl_values.specs.Kinds.{is_kind};
 ghost use Rattle.cell_merge.specs.Cells.{block_width, item_width};
 ghost use Rattle.cell_merge.specs.TableRows.{HasColumns};
 ghost use Rattle.combiner.specs.declared.checking.WordKind.TheVariants as kinds;
-ghost use Rattle.combiner.specs.GoodWords.{is_code as code_test, is_good as good_test, item_kinds, block_kinds, good_words};
+ghost use Rattle.combiner.specs.GoodWords.{is_code as code_test, is_good as good_test, kind_at as kind_of_place, item_kinds, block_kinds, good_words};
 
 use crate::finals::FinalFault;
 use cell_merge::{CellItem, block_words, item_words};
@@ -64,6 +64,14 @@ fn kind_in_block(items: &[CellItem], place: usize) -> WordKind
     }
 }
 
+/// What the word at a place of some cells is, counted from 0; their blocks have so many words.
+fn kind_at(items: &[CellItem], block: usize, place: usize) -> WordKind
+    requires { block ≡ block_width items.now }
+    ensures { result ≡ kind_of_place items.now place }
+{
+    kind_in_block(items, place % block)
+}
+
 /// Whether a value of a column of that type has the code.
 fn is_code(kind: &ColumnType, code: u64) -> bool
     requires { IsTrue (is_kind kind.now) }
@@ -101,7 +109,7 @@ pub(crate) fn check_words(
 {
     let block = block_words(items);
     for (place, word) in words.iter().enumerate() {
-        let kind = kind_in_block(items, place % block);
+        let kind = kind_at(items, block, place);
         if !is_good(columns, rows, kind, *word) {
             return Err(FinalFault::BadWord(place as u32, *word));
         }
