@@ -39,7 +39,8 @@ use Rattle.key_frames.specs.Trees.{key_list}
 use Rattle.session_model.specs.Answers.{answer_frame}
 use Rattle.session_model.specs.Cells.{ArePicked, cells_back, first_answer, rows_back}
 use Rattle.session_model.specs.Sessions.{session_roots, key_frame, key_bytes, round_answer, note, note_bytes, clear_text}
-use Rattle.session_model.proofs.CellsBack.{answer_length, answers_small, back_picked, word_added, words_planned}
+use Rattle.session_model.proofs.BackRows.{back_picked}
+use Rattle.session_model.proofs.CellsBack.{answer_length, answers_small, word_added, words_planned}
 use Rattle.session_model.proofs.CellsMerge.{back_merge}
 use Rattle.combiner.specs.Combining.{added, combined}
 use Rattle.combiner.specs.Finals.{last_words, final_of}
