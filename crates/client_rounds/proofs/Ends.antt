@@ -1,5 +1,5 @@
 -- A session over one table ends with the clear answer.
-use Rattle.std.proofs.Common.{◌≡◌, ℕ, zero, suc, ◌+◌, ◌^◌, ◌<◌, ◌≤◌, Bool, true, false, cond, List, [], ◌∷◌, length, drop, None, Some, Result, Ok, refl, sym, ap, subst, ◌∙◌, arith}
+use Rattle.std.proofs.Common.{◌≡◌, ℕ, zero, suc, ◌^◌, ◌<◌, ◌≤◌, Bool, true, false, cond, List, [], ◌∷◌, length, drop, None, Some, Result, Ok, refl, sym, ap, subst, ◌∙◌, arith}
 use Rattle.std.specs.Prelude.{nat_lt, ◌==◌}
 use Rattle.std.specs.List.{AllByRecursion}
 use Rattle.std.proofs.lemmas.Bool.Decides.{nat_tests}
@@ -29,7 +29,7 @@ use Rattle.sum_bounds.specs.Bounds.{sums_bounded}
 use Rattle.clear_sql.specs.Clear.{clear}
 use Rattle.clear_sql.specs.CellAnswers.{answer_of}
 use Rattle.clear_sql.proofs.MatchingCells.{matching_clear}
-use Rattle.private_plan.specs.Plans.{IsBuilt, kind_of, plan_of}
+use Rattle.private_plan.specs.Plans.{IsBuilt, plan_of}
 use Rattle.private_plan.specs.Rounds.{first_round, secrets_in}
 use Rattle.answer_frames.specs.declared.answer.AnswerFrame.{AnswerFrame}
 use Rattle.answer_frames.specs.Spelling.{AnswerOf}
@@ -169,7 +169,7 @@ module _ (e : Meaning) (pure : IsPure e) (checked : Checked) (table : TableParts
       let columns = table.shape.schema.columns in
       let adds = adds_in columns in
       let rowses = rows_back checked table params in
-      let of_table = all_at (AreRowsOf table) rowses (each_of_table table valid rowses (back_picked (kind_of checked columns) checked table params)) in
+      let of_table = all_at (AreRowsOf table) rowses (each_of_table table valid rowses (back_picked checked table params)) in
       final_is checked table.shape (cells_back checked table params) (clear columns checked.spec (matching_rows checked params table))
       (table_cells_good adds checked table rowses valid accepted of_table)
       (ap (λ (cells : List (List ℕ)). answer_of columns checked.spec (merge_all checked.spec cells)) (cells_cut adds checked table.shape.schema rowses valid.shape.schema accepted)

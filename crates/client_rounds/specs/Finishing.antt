@@ -8,7 +8,6 @@ use Rattle.query_reader.specs.Accepted.{IsCheckedFor}
 use Rattle.query_reader.specs.Params.{AreParamsFor}
 use Rattle.judged_queries.specs.Queries.{checked_in}
 use Rattle.judged_queries.specs.Codes.{codes_in}
-use Rattle.key_frames.specs.declared.note.Note.{Note}
 use Rattle.key_frames.specs.NoteReading.{note_fields_at}
 use Rattle.answer_frames.specs.declared.answer.AnswerFrame.{AnswerFrame}
 use Rattle.answer_frames.specs.Reading.{fields_at}
