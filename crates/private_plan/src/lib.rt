@@ -14,6 +14,6 @@ mod slot_secrets;
 pub use branches::slots;
 pub use layout::plan;
 pub use lengths::frame_length;
-pub use plans::{Plan, PlanKind, Specs};
+pub use plans::{Plan, PlanKind, Specs, is_built};
 pub use secrets::{SecretFault, Secrets, round_secrets};
 pub use spl_words::KeySpec;

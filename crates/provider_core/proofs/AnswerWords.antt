@@ -1,12 +1,11 @@
 -- The words of an answer with a cell for each key are those of the keys, one after another.
-use Rattle.std.proofs.Common.{◌≡◌, ◌<◌, ◌+◌, ◌-◌, ℕ, Bool, true, false, cond, eqb, Some, slice_get, ◌≤◌, List, [], ◌∷◌, ◌++◌, length, map, take, drop, refl, sym, ap, ap₂, subst, ◌∙◌, arith}
-use Rattle.std.specs.List.{AllByRecursion, flat_map}
+use Rattle.std.proofs.Common.{◌≡◌, ◌<◌, ◌+◌, ◌-◌, ℕ, Bool, true, false, cond, eqb, Some, slice_get, ◌≤◌, List, [], ◌∷◌, ◌++◌, length, map, take, drop, refl, sym, ap, ap₂, ◌∙◌, arith}
+use Rattle.std.specs.List.{flat_map}
 use Rattle.std.proofs.lemmas.Bool.{eqb-true, eqb-false}
 use Rattle.std.proofs.lemmas.List.{drop-drop}
 use Rattle.std.proofs.Math.Nat.{add-zero, zero-add}
 use Rattle.spl_words.specs.Folds.{AreEntries, fold_words}
 use Rattle.spl_words.specs.declared.provider.Provider.{Provider}
-use Rattle.spl_words.specs.declared.secret.KeySpec.{KeySpec}
 use Rattle.spl_values.specs.Tables.{TableParts}
 use Rattle.cell_merge.specs.Cells.{cell_width}
 use Rattle.seed_expansion.specs.Expanders.{Meaning}
@@ -15,33 +14,13 @@ use Rattle.key_frames.specs.declared.frame.KeyFrame.{KeyFrame}
 use Rattle.key_frames.specs.Keys.{depth}
 use Rattle.key_frames.specs.Trees.{key_share, key_shares, key_tree}
 use Rattle.query_reader.specs.declared.checked.Checked.{Checked}
-use Rattle.private_plan.specs.declared.plans.PlanKind.{PlanKind}
-use Rattle.private_plan.specs.declared.plans.PlanKind.TheVariants as kind
 use Rattle.private_plan.specs.Plans.{brings_cells, kind_of, plan_of}
-use Rattle.private_plan.specs.Rounds.{Entries, Fold, by_key, each_tree, first_depth, folds_for, folds_in}
+use Rattle.private_plan.specs.Rounds.{by_key, each_tree}
 use Rattle.session_model.specs.Answers.{answer_words, entries_of, words_of_fold}
+use Rattle.session_model.proofs.Plans.{cell_folds, folds_are, points_deep}
 use Rattle.provider_core.specs.Cells.{words_at}
-use Rattle.provider_core.proofs.KeyDepths.{AreFirst, depths_exact, first_begins}
+use Rattle.provider_core.proofs.KeyDepths.{AreFirst, first_begins}
 use Rattle.provider_core.proofs.Places.{numbered}
-
--- ---- the entries of the trees
-
-same_entries : (f g : KeySpec → Entries) (i : ℕ) (ts : List KeySpec) → AllByRecursion (λ t. f t ≡ g t) ts → each_tree f i ts ≡ each_tree g i ts
-unfolding each_tree
-same_entries f g i [] h = refl
-same_entries f g i (t ∷ ts) h = ap₂ (λ (e : Entries) fs. record { first = i; count = 1; entries = e } ∷ fs) h.0 (same_entries f g (i + 1) ts h.1)
-
-all_zero : (n : ℕ) (ts : List KeySpec) → AllByRecursion (λ (t : KeySpec). t.depth ≡ n) ts → AllByRecursion (λ (t : KeySpec). by_key 0 ≡ by_key (n - t.depth)) ts
-all_zero n [] h = tt
-all_zero n (t ∷ ts) h = (ap by_key (let e : 0 ≡ n - t.depth = omega (arith, h.0) in e), all_zero n ts h.1)
-
-all_less : (m n : ℕ) → m ≡ n → (ts : List KeySpec) → AllByRecursion (λ (t : KeySpec). by_key (m - t.depth) ≡ by_key (n - t.depth)) ts
-all_less m n e [] = tt
-all_less m n e (t ∷ ts) = (ap (λ k. by_key (k - t.depth)) e, all_less m n e ts)
-
-tree_depths : (n : ℕ) (ks : List Key) → AllByRecursion (λ (k : Key). depth k ≡ n) ks → AllByRecursion (λ (t : KeySpec). t.depth ≡ n) (map key_tree ks)
-tree_depths n [] h = tt
-tree_depths n (k ∷ ks) h = (h.0, tree_depths n ks h.1)
 
 -- ---- the words of the folds
 
@@ -66,13 +45,6 @@ module _ (e : Meaning) (p : Provider) (checked : Checked) (t : TableParts) where
   each_words keys i [] here = refl
   each_words keys i (k ∷ ks) here = ap₂ (λ a b. a ++ b) (one_key keys i k ks here) (each_words keys (i + 1) ks (sym (drop-drop 1 i keys) ∙ ap (drop 1) here))
 
-  folds_are : (k : PlanKind) (ks : List Key) → brings_cells k ≡ true → first_depth (map key_tree ks) ≡ checked.bits → ((k ≡ kind.Aligned → ⊥) → AllByRecursion (λ (key : Key). depth key ≡ checked.bits) ks)
-      → folds_for k 1 (map key_tree ks) ≡ each_tree (λ tree. by_key (checked.bits - tree.depth)) 0 (map key_tree ks)
-  folds_are kind.Sum ks brings first exact = absurd cc
-  folds_are kind.Point ks brings first exact = same_entries (λ tree. by_key 0) (λ tree. by_key (checked.bits - tree.depth)) 0 (map key_tree ks) (all_zero checked.bits (map key_tree ks) (tree_depths checked.bits ks (exact (λ (is : kind.Point ≡ kind.Aligned). cc))))
-  folds_are kind.Aligned ks brings first exact = same_entries (λ tree. by_key (first_depth (map key_tree ks) - tree.depth)) (λ tree. by_key (checked.bits - tree.depth)) 0 (map key_tree ks) (all_less (first_depth (map key_tree ks)) checked.bits first (map key_tree ks))
-  folds_are kind.Position ks brings first exact = absurd cc
-
   -- the words of an answer with a cell for each key
   pub cells_answer : (frame : KeyFrame) → AreFirst t checked frame → 0 < length frame.keys → brings_cells (kind_of checked t.shape.schema.columns) ≡ true
       → answer_words e p frame.round frame.keys checked t ≡ numbered words_of_key 0 frame.keys
@@ -80,9 +52,8 @@ module _ (e : Meaning) (p : Provider) (checked : Checked) (t : TableParts) where
   cells_answer frame are some brings =
       let k = kind_of checked t.shape.schema.columns in
       let words = words_of_fold e p 0 frame.keys checked t in
-      rw are.round
-      (ap (λ (ts : List KeySpec). flat_map words (folds_for k 1 ts)) are.trees
-      ∙ (ap (flat_map words) (folds_are k frame.keys brings (first_begins t checked frame are some) (depths_exact t checked frame are)) ∙ each_words frame.keys 0 frame.keys refl))
+      let folds = folds_are checked.bits k (plan_of checked t.shape).first brings (first_begins t checked frame are some) (points_deep checked t.shape) in
+      rw are.round (ap (flat_map words) (folds ∙ ap (cell_folds checked.bits) are.trees) ∙ each_words frame.keys 0 frame.keys refl)
 
   -- ---- one level more
 

@@ -21,6 +21,7 @@ use Rattle.private_plan.specs.declared.plans.PlanKind.TheVariants as kind
 use Rattle.private_plan.specs.Plans.{brings_cells, is_built, kind_of, last_bits, level_trees, plan_of, second_trees, slot_trees, tree, words_back}
 use Rattle.private_plan.specs.Lengths.{trees_in}
 use Rattle.private_plan.specs.Rounds.{first_depth}
+use Rattle.private_plan.proofs.FirstTrees.{each-append}
 use Rattle.provider_core.specs.declared.fault.ProviderFault.{ProviderFault}
 use Rattle.provider_core.specs.Asking.{if_built, if_placed, keys_placed}
 use Rattle.provider_core.specs.Layouts.{has_kind, is_key_of, layout_differs, IsPlaced}
@@ -116,10 +117,6 @@ each_key P (k ∷ ks) h = (h.0, each_key P ks h.1)
 
 -- ---- the trees of a plan
 
-each-append : (P : KeySpec → Type 0) (xs ys : List KeySpec) → AllByRecursion P xs → AllByRecursion P ys → AllByRecursion P (xs ++ ys)
-each-append P [] ys h k = k
-each-append P (x ∷ xs) ys h k = (h.0, each-append P xs ys h.1 k)
-
 each_slot : (P : KeySpec → Type 0) (trees : List KeySpec) (slots : List ℕ) → AllByRecursion P trees → AllByRecursion P (flat_map (λ i. trees) slots)
 each_slot P trees [] h = tt
 each_slot P trees (s ∷ ss) h = each-append P trees (flat_map (λ i. trees) ss) h (each_slot P trees ss h)
@@ -145,12 +142,9 @@ module _ (n w : ℕ) where
   slot_within kind.Aligned range = levels_within (range_with_len 0 w)
   slot_within kind.Position range = (omega arith, (omega arith, tt))
 
-  slot_exact : (k : PlanKind) (range : Bool) → (k ≡ kind.Aligned → ⊥) → AllByRecursion (λ (t : KeySpec). t.depth ≡ n) (slot_trees k range n w)
-  slot_exact kind.Sum false other = (refl, tt)
-  slot_exact kind.Sum true other = (refl, (refl, tt))
-  slot_exact kind.Point range other = (refl, tt)
-  slot_exact kind.Aligned range other = absurd (other refl)
-  slot_exact kind.Position range other = (refl, (refl, tt))
+  sum_exact : (range : Bool) → AllByRecursion (λ (t : KeySpec). t.depth ≡ n) (slot_trees kind.Sum range n w)
+  sum_exact false = (refl, tt)
+  sum_exact true = (refl, (refl, tt))
 
 levels_begin : (n w : ℕ) → Begins n (level_trees n w)
 levels_begin n zero some = absurd (omega (arith, some))
@@ -163,23 +157,15 @@ slot_begins n w kind.Point range some = refl
 slot_begins n w kind.Aligned range some = levels_begin n w some
 slot_begins n w kind.Position range some = refl
 
-none_second : (k : PlanKind) (rows : ℕ) (slots : List ℕ) → is_built k ≡ true → flat_map (λ (i : ℕ). second_trees k rows) slots ≡ []
-none_second kind.Sum rows slots built = none_of slots
-  where
-    none_of : (slots : List ℕ) → flat_map (λ (i : ℕ). second_trees kind.Sum rows) slots ≡ []
-    none_of [] = refl
-    none_of (s ∷ ss) = none_of ss
-none_second kind.Point rows slots built = none_of slots
-  where
-    none_of : (slots : List ℕ) → flat_map (λ (i : ℕ). second_trees kind.Point rows) slots ≡ []
-    none_of [] = refl
-    none_of (s ∷ ss) = none_of ss
-none_second kind.Aligned rows slots built = none_of slots
-  where
-    none_of : (slots : List ℕ) → flat_map (λ (i : ℕ). second_trees kind.Aligned rows) slots ≡ []
-    none_of [] = refl
-    none_of (s ∷ ss) = none_of ss
-none_second kind.Position rows slots built = absurd cc
+second_none : (k : PlanKind) (rows : ℕ) → is_built k ≡ true → second_trees k rows ≡ []
+second_none kind.Sum rows built = refl
+second_none kind.Point rows built = refl
+second_none kind.Aligned rows built = refl
+second_none kind.Position rows built = absurd cc
+
+none_each : (trees : List KeySpec) (slots : List ℕ) → trees ≡ [] → flat_map (λ i. trees) slots ≡ []
+none_each trees [] none = refl
+none_each trees (s ∷ ss) none = ap₂ (λ a b. a ++ b) none (none_each trees ss none)
 
 -- ---- the keys of a frame that is answered
 
@@ -211,7 +197,7 @@ module _ (table : TableParts) (checked : Checked) (frame : KeyFrame) where
         by_round : (b : Bool) → eqb frame.round 2 ≡ b → is_built (kind_of checked table.shape.schema.columns) ≡ true
             → cond b (plan_of checked table.shape).second (plan_of checked table.shape).first ≡ map key_tree frame.keys → AreFirst table checked frame
         by_round true is built trees =
-            let none = ap (λ (ts : List KeySpec). length ts) (sym trees ∙ none_second (kind_of checked table.shape.schema.columns) table.shape.rows (range_with_len 0 checked.branches) built) in
+            let none = ap (λ (ts : List KeySpec). length ts) (sym trees ∙ none_each _ (range_with_len 0 checked.branches) (second_none (kind_of checked table.shape.schema.columns) table.shape.rows built)) in
             absurd (omega (arith, none, length-map frame.keys key_tree, allowed.count.0))
         by_round false is built trees = record { built = built; round = (let other = eqb-false frame.round 2 is in omega (arith, other, allowed.round.0, allowed.round.1)); trees = trees }
 
@@ -229,18 +215,18 @@ module _ (table : TableParts) (checked : Checked) (frame : KeyFrame) where
         let slot = slot_within checked.bits columns_bits (kind_of checked table.shape.schema.columns) checked.range in
         each_key P frame.keys (subst (AllByRecursion P) are.trees (each_slot P _ (range_with_len 0 checked.branches) slot))
 
-    -- nor fewer, where each key is of one level
-    pub depths_exact : (kind_of checked table.shape.schema.columns ≡ kind.Aligned → ⊥) → AllByRecursion (λ (k : Key). depth k ≡ checked.bits) frame.keys
-    depths_exact other =
+    -- nor fewer, for a sum
+    pub depths_exact : kind_of checked table.shape.schema.columns ≡ kind.Sum → AllByRecursion (λ (k : Key). depth k ≡ checked.bits) frame.keys
+    depths_exact sums =
         let P : KeySpec → Type 0 = λ t. t.depth ≡ checked.bits in
-        let slot = slot_exact checked.bits columns_bits (kind_of checked table.shape.schema.columns) checked.range other in
+        let slot : AllByRecursion P (slot_trees (kind_of checked table.shape.schema.columns) checked.range checked.bits columns_bits) = rw sums (sum_exact checked.bits columns_bits checked.range) in
         each_key P frame.keys (subst (AllByRecursion P) are.trees (each_slot P _ (range_with_len 0 checked.branches) slot))
 
-    -- the first key has as many levels as the joined key has bits
-    pub first_begins : 0 < length frame.keys → first_depth (map key_tree frame.keys) ≡ checked.bits
+    -- the first tree has as many levels as the joined key has bits
+    pub first_begins : 0 < length frame.keys → first_depth (plan_of checked table.shape).first ≡ checked.bits
     first_begins some =
         let slot = slot_begins checked.bits columns_bits (kind_of checked table.shape.schema.columns) checked.range in
-        subst (Begins checked.bits) are.trees (begins_again checked.bits _ (range_with_len 0 checked.branches) slot) (omega (arith, some, length-map frame.keys key_tree))
+        begins_again checked.bits _ (range_with_len 0 checked.branches) slot (omega (arith, some, first_count))
 
 -- ---- cells for keys
 

@@ -1,32 +1,31 @@
 -- The cells of a level: how many there are, how many bits their numbers have, and those of the next level.
-use Rattle.std.proofs.Common.{◌≡◌, ◌<◌, ◌≤◌, ◌+◌, ◌-◌, ◌*◌, ◌/◌, ◌^◌, ℕ, Bool, true, false, cond, ltb, eqb, List, [], ◌∷◌, length, map, Result, Ok, Err, refl, sym, ap, subst, ◌∙◌, arith}
+use Rattle.std.proofs.Common.{◌≡◌, ◌<◌, ◌≤◌, ◌+◌, ◌-◌, ◌*◌, ◌/◌, ◌^◌, ℕ, Bool, true, false, cond, ltb, eqb, List, [], ◌∷◌, length, map, Result, Ok, Err, sym, ap, subst, ◌∙◌, arith}
 use Rattle.std.specs.Prelude.{All, IfOk}
 use Rattle.std.specs.List.{AllByRecursion, flat_map}
 use Rattle.std.proofs.lemmas.List.{length-map}
-use Rattle.std.proofs.lemmas.Nat.{pow-add, pow_pos, shr-shr}
-use Rattle.std.proofs.Math.Nat.{div-lt_iff_lt-mul, div-one}
+use Rattle.std.proofs.lemmas.List.Elements.{All-from_recursion}
+use Rattle.std.proofs.lemmas.Nat.{shr-shr}
+use Rattle.std.proofs.Math.Nat.{div-one}
 use Rattle.spl_words.specs.Folds.{AreEntries}
 use Rattle.spl_words.specs.Rising.{put_number, rising}
-use Rattle.spl_words.proofs.Rising.{any-rising}
-use Rattle.spl_values.specs.Tables.{IsTable, TableParts, key_bits}
+use Rattle.spl_values.specs.Tables.{IsTable, TableParts}
 use Rattle.cell_merge.specs.Rows.{Row, Apart}
 use Rattle.cell_merge.specs.Cells.{cell, cell_width}
 use Rattle.cell_merge.specs.TableRows.{adds_in, rows_of}
 use Rattle.cell_merge.specs.declared.cells.CellTable.{CellTable}
-use Rattle.cell_merge.proofs.Labels.{Apart-filter}
 use Rattle.cell_merge.proofs.Lists.{each-map, each_weaker, length-filter-le}
-use Rattle.cell_merge.proofs.RowCells.{rows_apart}
 use Rattle.cell_runs.specs.CellsBy.{ArePairs, cells_by, rows_at}
-use Rattle.cell_runs.proofs.Numbers.{all_among, among_all}
 use Rattle.clear_sql.proofs.GoodCells.{length-cell}
 use Rattle.clear_sql.proofs.MatchingCells.{length-rows_of}
 use Rattle.query_reader.specs.declared.checked.Checked.{Checked}
+use Rattle.query_reader.specs.Accepted.{IsCheckedFor}
 use Rattle.query_reader.specs.Matching.{is_kept, kept_rows}
-use Rattle.count_sum.specs.SumPairs.{joined_key, sum_pairs, pairs_of}
+use Rattle.count_sum.specs.SumPairs.{joined_key, sum_pairs}
 use Rattle.count_sum.specs.KeyCells.{key_pairs}
-use Rattle.keyed_rows.proofs.Sorted.{IsOf, each_all, key_fits, kept_are}
-use Rattle.private_plan.specs.Rounds.{Entries, rows, by_key}
-use Rattle.session_model.specs.Answers.{cells_at, entries_of}
+use Rattle.private_plan.specs.Rounds.{rows, by_key}
+use Rattle.session_model.specs.Answers.{entries_of}
+use Rattle.session_model.proofs.KeptRows.{kept_apart, kept_below}
+use Rattle.session_model.proofs.Told.{each_number, fewer_bits}
 use Rattle.provider_core.specs.Cells.{AreCells}
 use Rattle.provider_core.proofs.RowSums.{entries_are}
 
@@ -56,33 +55,20 @@ module _ (checked : Checked) (t : TableParts) where
       let count = length-rows_of t in
       omega (arith, fewer, count, table.count, table.shape.few)
 
-  kept_apart : Apart (kept_rows checked t)
-  kept_apart = Apart-filter (is_kept checked.public) (rows_of t) (rows_apart t)
-
   -- the joined key of a kept row without its lowest bits
   abbrev high : ℕ → Row → ℕ
   high level r = joined_key checked t r / 2 ^ level
-
-  high_below : (level : ℕ) → IsTable t → checked.bits ≡ key_bits t.shape.schema.columns checked.columns → level ≤ checked.bits → (r : Row) → IsOf t r → high level r < 2 ^ (checked.bits - level)
-  high_below level table is inside r of =
-      let low : joined_key checked t r < 2 ^ checked.bits = subst (λ n. joined_key checked t r < 2 ^ n) (sym is) (key_fits checked t r table of) in
-      let parts : 2 ^ checked.bits ≡ 2 ^ (checked.bits - level) * 2 ^ level = ap (λ n. 2 ^ n) (let e : checked.bits ≡ (checked.bits - level) + level = omega (arith, inside) in e) ∙ pow-add 2 (checked.bits - level) level in
-      (div-lt_iff_lt-mul (pow_pos level)).1 (subst (λ n. joined_key checked t r < n) parts low)
 
   -- ---- the entries of a level
 
   abbrev pairs_at : ℕ → List (ℕ × List ℕ)
   pairs_at level = entries_of checked t (by_key level)
 
-  numbers_are : (level : ℕ) (l : List ℕ) → map (λ (p : ℕ × List ℕ). p.0) (map (λ n. (n, cell (adds_in t.shape.schema.columns) checked.spec (rows_at (high level) (kept_rows checked t) n))) l) ≡ l
-  numbers_are level [] = refl
-  numbers_are level (n ∷ l) = ap (λ r. n ∷ r) (numbers_are level l)
-
   -- no more than 2^18 cells
   pub few_at : (level : ℕ) (keys cells : List ℕ) → IsTable t → AreEntries (cell_width checked.spec) (pairs_at level) keys cells → length keys ≤ 262144
   few_at level keys cells table are =
       let some = map (high level) (kept_rows checked t) in
-      let same = ap (λ l. length l) (are.each_number ∙ numbers_are level (rising some)) in
+      let same = ap (λ l. length l) are.each_number ∙ length-map (pairs_at level) (λ (p : ℕ × List ℕ). p.0) ∙ length-map (rising some) _ in
       let fewer = length-rising some in
       let long = length-map (kept_rows checked t) (high level) in
       let few = kept_few table in
@@ -95,14 +81,15 @@ module _ (checked : Checked) (t : TableParts) where
       omega (arith, same, few)
 
   -- their numbers have the bits that are left
-  pub below_at : (level : ℕ) (keys cells : List ℕ) → IsTable t → checked.bits ≡ key_bits t.shape.schema.columns checked.columns → level ≤ checked.bits
+  pub below_at : (level : ℕ) (keys cells : List ℕ) → IsTable t → IsCheckedFor checked t.shape.schema → level ≤ checked.bits
       → AreEntries (cell_width checked.spec) (pairs_at level) keys cells → All (λ x. x < 2 ^ (checked.bits - level)) keys
-  below_at level keys cells table is inside are =
+  below_at level keys cells table accepted inside are =
       let P : ℕ → Type 0 = λ x. x < 2 ^ (checked.bits - level) in
       let kept = kept_rows checked t in
-      let each : AllByRecursion P (map (high level) kept) = each-map P (high level) kept (each_weaker (IsOf t) (λ r. P (high level r)) (high_below level table is inside) kept (kept_are checked t table)) in
-      let rise : AllByRecursion P (rising (map (high level) kept)) = among_all P (rising (map (high level) kept)) (λ x there. all_among P (map (high level) kept) x each (sym (any-rising (λ y. eqb y x) (map (high level) kept)) ∙ there)) in
-      each_all P keys (subst (AllByRecursion P) (sym (are.each_number ∙ numbers_are level (rising (map (high level) kept)))) rise)
+      let same : checked.bits - (checked.bits - level) ≡ level = omega (arith, inside) in
+      let left : (r : Row) → joined_key checked t r < 2 ^ checked.bits → P (high level r) = λ r below. rw same at (fewer_bits checked.bits (checked.bits - level) (joined_key checked t r) (omega arith) below) in
+      let each = each_number P (adds_in t.shape.schema.columns) checked.spec (high level) kept (each_weaker (λ r. joined_key checked t r < 2 ^ checked.bits) (λ r. P (high level r)) left kept (kept_below checked t table accepted)) in
+      All-from_recursion P keys (subst (AllByRecursion P) (sym are.each_number) (each-map P (λ (p : ℕ × List ℕ). p.0) (pairs_at level) each))
 
   -- ---- from level to level
 
@@ -123,7 +110,7 @@ module _ (checked : Checked) (t : TableParts) where
       → AreEntries (cell_width checked.spec) (pairs_at level) keys cells → AreEntries (cell_width checked.spec) (pairs_at (level + 1)) keys' cells'
   next_at level keys cells keys' cells' table lifted are =
       let few = kept_few table in
-      let pairs = lifted (high level) (kept_rows checked t) kept_apart (omega (arith, few)) (record { each_key = are.each_number; each_cell = are.each_cell; wide = are.wide }) in
+      let pairs = lifted (high level) (kept_rows checked t) (kept_apart checked t) (omega (arith, few)) (record { each_key = are.each_number; each_cell = are.each_cell; wide = are.wide }) in
       let same = ap (λ (number : Row → ℕ). cells_by (adds_in t.shape.schema.columns) checked.spec number (kept_rows checked t)) (λ i r. next_high level r i) in
       let next = subst (λ l. ArePairs (cell_width checked.spec) l keys' cells') same pairs in
       record { each_number = next.each_key; each_cell = next.each_cell; wide = next.wide }

@@ -1,15 +1,10 @@
 //! The answer to a key frame.
-ghost use Rattle.std.specs.Prelude.{◌≡◌, ◌+◌, ◌*◌, ◌≤◌, Ok, length, replicate, vec_len, IfOk, IfErr};
+ghost use Rattle.std.specs.Prelude.{◌≡◌, ◌+◌, ◌*◌, ◌≤◌, length, vec_len, IfOk, IfErr};
 ghost use Rattle.spl_words.specs.Results.{Gives};
 ghost use Rattle.answer_frames.specs.Spelling.{Allowed, spelling};
-ghost use Rattle.cell_merge.specs.Cells.{cell_width};
-ghost use Rattle.query_reader.specs.Accepted.{IsCheckedFor};
-ghost use Rattle.key_frames.specs.Frames.{FrameAllowed};
-ghost use Rattle.private_plan.specs.Plans.{kind_of, plan_of};
-ghost use Rattle.session_model.specs.Answers.{answer_bytes, answer_words};
+ghost use Rattle.session_model.specs.Answers.{answer_bytes};
 ghost use Rattle.provider_core.specs.Answering.{answered};
-ghost use Rattle.provider_core.specs.Asking.{IsRequest, keys_placed};
-ghost use Rattle.provider_core.specs.Cells.{AreCells, first_entries};
+ghost use Rattle.provider_core.specs.Asking.{IsRequest};
 ghost use Rattle.provider_core.specs.Faults.{OwnsMemory};
 ghost use Rattle.provider_core.specs.declared.fault.ProviderFault.TheVariants.{OutOfMemory};
 
@@ -17,10 +12,9 @@ use crate::asked::{Request, judge};
 use crate::fault::ProviderFault;
 use crate::words::{Folding, fill_words, first_cells};
 use answer_frames::{AnswerFrame, fill_answer};
-use cell_merge::CellTable;
 use csv_tables::table_digest;
 use key_frames::frame_digest;
-use private_plan::{PlanKind, plan};
+use private_plan::plan;
 use query_reader::laws::{accepted_has_cells, accepted_has_keys};
 use seed_expansion::Expander;
 use share_eval::{Gate, Lane};
@@ -28,33 +22,6 @@ use spl_values::Table;
 use spl_words::{Provider, Words};
 use std::alloc::{AllocError, Global};
 use std::thread::Threads;
-
-/// The words of an answer, in the room for them, which is all zeros.
-fn words_of<T: Threads + Sync, E: Expander + Sync, G: Gate + Sync>(
-    rt: &T,
-    gate: &G,
-    folding: &Folding<E>,
-    kind: PlanKind,
-    cells: &mut CellTable,
-    lanes: &mut [Lane],
-    part: &mut [u64],
-    room: Vec<u64>,
-) -> Words
-    requires checked { IsCheckedFor folding.now.asked.now.checked folding.now.table.now.shape.schema }
-    requires allowed { FrameAllowed folding.now.asked.now.frame }
-    requires placed { keys_placed folding.now.table.now folding.now.asked.now.frame folding.now.asked.now.checked ≡ Ok tt }
-    requires kind { kind ≡ kind_of folding.now.asked.now.checked folding.now.table.now.shape.schema.columns }
-    requires cells { AreCells folding.now.asked.now.checked folding.now.table.now (first_entries kind) folding.now.asked.now.checked.bits cells.old }
-    requires workers { (1 ≤ length lanes.old) × (length lanes.old ≤ 64) }
-    requires part { length part.old ≡ cell_width folding.now.asked.now.checked.spec }
-    requires room { room.items ≡ replicate (plan_of folding.now.asked.now.checked folding.now.table.now.shape).first_words 0 }
-    ensures words { result ≡ answer_words (E.meaning folding.now.expander.now) folding.now.provider folding.now.asked.now.frame.round folding.now.asked.now.frame.keys folding.now.asked.now.checked folding.now.table.now }
-    ensures count { length result ≡ (plan_of folding.now.asked.now.checked folding.now.table.now.shape).first_words }
-{
-    let mut words = room;
-    fill_words(rt, gate, folding, kind, cells, lanes, part, &mut words);
-    Words::from_vec(words)
-}
 
 /// The bytes of an answer frame, in the room for them.
 fn bytes_of(frame: &AnswerFrame, room: Vec<u8>) -> Vec<u8>
@@ -92,7 +59,7 @@ fn reply<T: Threads + Sync, E: Expander + Sync, G: Gate + Sync>(
     let digest = table_digest(alloc, table)?;
     let mut lanes = vec![in alloc; Lane { sums: [0; 128] }; workers]?;
     let mut part = vec![in alloc; 0u64; cells.width as usize]?;
-    let words = vec![in alloc; 0u64; plan.first_words as usize]?;
+    let mut words = vec![in alloc; 0u64; plan.first_words as usize]?;
     let room = vec![in alloc; 0u8; 123 + 8 * plan.first_words as usize]?;
     let folding = Folding {
         expander,
@@ -100,8 +67,8 @@ fn reply<T: Threads + Sync, E: Expander + Sync, G: Gate + Sync>(
         asked,
         table,
     };
-    let words = words_of(
-        rt, gate, &folding, plan.kind, &mut cells, &mut lanes, &mut part, words,
+    fill_words(
+        rt, gate, &folding, plan.kind, &mut cells, &mut lanes, &mut part, &mut words,
     );
     let frame = AnswerFrame {
         session: asked.frame.session,
@@ -109,7 +76,7 @@ fn reply<T: Threads + Sync, E: Expander + Sync, G: Gate + Sync>(
         provider,
         key: frame_digest(bytes),
         table: digest,
-        words,
+        words: Words::from_vec(words),
     };
     Ok(bytes_of(&frame, room))
 }

@@ -1,4 +1,4 @@
-use Rattle.std.proofs.Common.{◌≡◌, ◌≤◌, ◌<◌, ◌+◌, ◌-◌, ℕ, refl, ap, sym, subst, ◌∙◌, arith}
+use Rattle.std.proofs.Common.{◌≡◌, ◌≤◌, ◌<◌, ◌+◌, ◌-◌, refl, ap, ◌∙◌, arith}
 use Rattle.std.proofs.lemmas.Option.{slice_get_within, get_or_from_slice_get}
 use Rattle.key_frames.specs.Keys.{depth}
 use Rattle.cell_merge.specs.TableRows.{adds_in}
@@ -24,7 +24,6 @@ loop-level-preserved g c =
     let level = c.loop-level.level in
     let inside : level ≤ checked.bits = omega (arith, c.loop-level-test.true) in
     let next : level + 1 ≤ checked.bits = omega (arith, c.loop-level-test.true) in
-    let bits = c.accepted_has_keys.ensures.bits checked table.shape.schema c.requires.checked in
     let are = c.loop-level.invariant.cells in
     let each = next_at checked table level c.loop-level.cells.keys c.loop-level.cells.cells c.lift.new.table.keys c.lift.new.table.cells c.shape.ensures.valid (c.lift.ensures.lifted (adds_in table.shape.schema.columns)) are.each in
     record {
@@ -32,7 +31,7 @@ loop-level-preserved g c =
         each = each;
         width = c.lift.ensures.width ∙ are.width;
         whole = c.lift.ensures.whole;
-        below = below_at checked table (level + 1) c.lift.new.table.keys c.lift.new.table.cells c.shape.ensures.valid bits next each;
+        below = below_at checked table (level + 1) c.lift.new.table.keys c.lift.new.table.cells c.shape.ensures.valid c.requires.checked next each;
       };
       done = level_more (g.E.Expander.meaning f.expander.now) f.provider checked table f.asked.now.frame.keys level (checked.bits - level) c.loop-level.cells.width c.loop-level.cells.keys c.loop-level.cells.cells c.loop-level.words c.fold_level.new.words
           inside refl are.width are.each c.fold_level.ensures c.loop-level.invariant.done;

@@ -1,10 +1,8 @@
-use Rattle.std.proofs.Common.{◌≡◌, ◌≤◌, ◌<◌, ◌+◌, ◌^◌, ◌*◌, ◌⊎◌, ℕ, true, List, length, get_or, replicate, sym, ap, subst, ◌∙◌, arith}
+use Rattle.std.proofs.Common.{◌≡◌, ◌≤◌, ◌+◌, ◌*◌, ℕ, true, List, length, replicate, sym, ap, subst, ◌∙◌, arith}
 use Rattle.std.proofs.lemmas.List.{length-replicate}
 use Rattle.std.proofs.lemmas.List.Elements.{All-from_recursion}
-use Rattle.std.specs.Prelude.{All}
-use Rattle.spl_values.specs.Tables.{TableParts, IsTable}
+use Rattle.spl_values.specs.Tables.{TableParts}
 use Rattle.cell_merge.specs.Cells.{cell_width}
-use Rattle.cell_merge.specs.declared.cells.CellTable.{CellTable}
 use Rattle.key_frames.specs.declared.frame.KeyFrame.{KeyFrame}
 use Rattle.key_frames.specs.declared.keys.Key.{Key}
 use Rattle.key_frames.specs.Keys.{depth}
@@ -14,9 +12,7 @@ use Rattle.count_sum.specs.SumPairs.{sum_pairs}
 use Rattle.private_plan.specs.declared.plans.PlanKind.{PlanKind}
 use Rattle.private_plan.specs.declared.plans.PlanKind.TheVariants as kind
 use Rattle.private_plan.specs.Plans.{brings_cells, kind_of, plan_of}
-use Rattle.private_plan.specs.Rounds.{rows, by_key}
 use Rattle.session_model.proofs.Answers.{one_fold}
-use Rattle.provider_core.specs.Cells.{AreCells, first_entries}
 use Rattle.provider_core.proofs.AnswerWords.{cells_answer, words_of_key}
 use Rattle.provider_core.proofs.CellWidths.{some_words}
 use Rattle.provider_core.proofs.KeyDepths.{AreFirst, brings_of, depths_exact, depths_within, first_count, placed_first, words_for, words_for_sum}
@@ -36,7 +32,7 @@ add_keys-requires-clause-bits g c = λ lifetimes within k d inside j x below.
     let asked = c.args.folding.now.asked.now in
     let table = c.args.folding.now.table.now in
     let first = placed_first table asked.checked asked.frame c.requires.placed c.requires.allowed in
-    let exact = depths_exact table asked.checked asked.frame first (λ is. (let sum : kind.Sum ≡ kind.Aligned = sym c.in-Sum.is ∙ (c.requires.kind ∙ is) in cc)) in
+    let exact = depths_exact table asked.checked asked.frame first (sym c.requires.kind ∙ c.in-Sum.is) in
     let here = All-from_recursion (λ (key : Key). depth key ≡ asked.checked.bits) asked.frame.keys exact k d inside in
     rw here (c.requires.cells.below j x below)
 
