@@ -1,22 +1,29 @@
--- Keys that lie as the plan asks: where the first differs, and how deep all of them are.
-use Rattle.std.proofs.Common.{◌≡◌, ◌<◌, ◌≤◌, ◌+◌, ℕ, zero, suc, Bool, true, false, cond, List, [], ◌∷◌, ◌++◌, length, drop, Option, Some, None, Result, Ok, refl, sym, ap, subst, ◌∙◌, arith, get_or, slice_get, eqb, length-drop}
+-- Keys that lie as the plan asks: where the first differs, and which round, trees and depths they are of.
+use Rattle.std.proofs.Common.{◌≡◌, ◌<◌, ◌≤◌, ◌+◌, ◌-◌, ◌*◌, ◌⊎◌, inl, inr, ℕ, zero, suc, Bool, true, false, cond, List, [], ◌∷◌, ◌++◌, length, map, replicate, drop, Option, Some, None, Result, Ok, refl, sym, ap, ap₂, subst, ◌∙◌, arith, get_or, slice_get, eqb, length-drop}
 use Rattle.std.specs.List.{AllByRecursion, flat_map, range_with_len}
 use Rattle.std.proofs.lemmas.Bool.{and_parts, eqb-true, eqb-false}
-use Rattle.std.proofs.lemmas.List.{drop_more, drop_all, drop-drop}
+use Rattle.std.proofs.lemmas.List.{drop_more, drop_all, drop-drop, length-map}
+use Rattle.std.proofs.Math.Nat.{mul-le-mul_right}
 use Rattle.spl_words.specs.Results.{◌>>=◌}
+use Rattle.spl_words.specs.declared.secret.KeySpec.{KeySpec}
+use Rattle.spl_words.specs.declared.secret.TreeKind.{TreeKind}
+use Rattle.spl_words.specs.declared.secret.TreeKind.TheVariants as tree_kind
 use Rattle.spl_values.specs.Tables.{TableParts}
 use Rattle.key_frames.specs.declared.frame.KeyFrame.{KeyFrame}
 use Rattle.key_frames.specs.declared.keys.Key.{Key}
+use Rattle.key_frames.specs.declared.keys.Key.TheVariants.{Point, Threshold}
 use Rattle.key_frames.specs.Frames.{FrameAllowed}
 use Rattle.key_frames.specs.Keys.{depth}
+use Rattle.key_frames.specs.Trees.{key_tree}
 use Rattle.query_reader.specs.declared.checked.Checked.{Checked}
-use Rattle.spl_words.specs.declared.secret.KeySpec.{KeySpec}
 use Rattle.private_plan.specs.declared.plans.PlanKind.{PlanKind}
 use Rattle.private_plan.specs.declared.plans.PlanKind.TheVariants as kind
-use Rattle.private_plan.specs.Plans.{kind_of, plan_of, second_trees, slot_trees}
+use Rattle.private_plan.specs.Plans.{brings_cells, is_built, kind_of, last_bits, level_trees, plan_of, second_trees, slot_trees, tree, words_back}
 use Rattle.private_plan.specs.Lengths.{trees_in}
+use Rattle.private_plan.specs.Rounds.{first_depth}
+use Rattle.private_plan.proofs.FirstTrees.{each-append}
 use Rattle.provider_core.specs.declared.fault.ProviderFault.{ProviderFault}
-use Rattle.provider_core.specs.Asking.{if_placed, if_sum, keys_placed}
+use Rattle.provider_core.specs.Asking.{if_built, if_placed, keys_placed}
 use Rattle.provider_core.specs.Layouts.{has_kind, is_key_of, layout_differs, IsPlaced}
 
 -- ---- the first key that differs
@@ -78,90 +85,179 @@ pub none_differs : (trees : List KeySpec) (keys : List Key) (i : ℕ) → i ≡ 
 none_differs trees keys i end less =
     ap (layout_differs i (drop i trees)) (drop_all i keys (omega (arith, end))) ∙ nothing i (drop i trees) (drop_all i trees less)
 
--- ---- the depth of each key
+-- ---- the trees of the keys
 
 both_same : (i : ℕ) (b : Bool) (o : Option ℕ) → cond b o (Some i) ≡ None → (b ≡ true) × (o ≡ None)
 both_same i true o h = (refl, h)
 both_same i false o h = absurd cc
 
-layout_depths : (n i : ℕ) (ts : List KeySpec) (ks : List Key) → layout_differs i ts ks ≡ None → AllByRecursion (λ (t : KeySpec). t.depth ≡ n) ts → AllByRecursion (λ (k : Key). depth k ≡ n) ks
+kind_same : (k : TreeKind) (key : Key) → has_kind k key ≡ true → k ≡ (key_tree key).kind
+kind_same tree_kind.Point (Point p) h = refl
+kind_same tree_kind.Point (Threshold p) h = absurd cc
+kind_same tree_kind.Threshold (Point p) h = absurd cc
+kind_same tree_kind.Threshold (Threshold p) h = refl
+
+tree_same : (t : KeySpec) (key : Key) → is_key_of t key ≡ true → t ≡ key_tree key
+tree_same t key h =
+    let parts = and_parts (has_kind t.kind key) (eqb t.depth (depth key)) h in
+    ap₂ tree (kind_same t.kind key parts.0) (eqb-true t.depth (depth key) parts.1)
+
+layout_trees : (i : ℕ) (ts : List KeySpec) (ks : List Key) → layout_differs i ts ks ≡ None → ts ≡ map key_tree ks
 unfolding layout_differs
-layout_depths n i [] [] h each = tt
-layout_depths n i [] (k ∷ ks) h each = absurd cc
-layout_depths n i (t ∷ ts) [] h each = absurd cc
-layout_depths n i (t ∷ ts) (k ∷ ks) h each =
+layout_trees i [] [] h = refl
+layout_trees i [] (k ∷ ks) h = absurd cc
+layout_trees i (t ∷ ts) [] h = absurd cc
+layout_trees i (t ∷ ts) (k ∷ ks) h =
     let both = both_same i (is_key_of t k) (layout_differs (i + 1) ts ks) h in
-    let parts = and_parts (has_kind t.kind k) (eqb t.depth (depth k)) both.0 in
-    (sym (eqb-true t.depth (depth k) parts.1) ∙ each.0, layout_depths n (i + 1) ts ks both.1 each.1)
+    ap₂ (λ x xs. x ∷ xs) (tree_same t k both.0) (layout_trees (i + 1) ts ks both.1)
 
-layout_count : (i : ℕ) (ts : List KeySpec) (ks : List Key) → layout_differs i ts ks ≡ None → length ks ≡ length ts
-unfolding layout_differs
-layout_count i [] [] h = refl
-layout_count i [] (k ∷ ks) h = absurd cc
-layout_count i (t ∷ ts) [] h = absurd cc
-layout_count i (t ∷ ts) (k ∷ ks) h = let both = both_same i (is_key_of t k) (layout_differs (i + 1) ts ks) h in ap (λ n. suc n) (layout_count (i + 1) ts ks both.1)
+each_key : (P : KeySpec → Type 0) (ks : List Key) → AllByRecursion P (map key_tree ks) → AllByRecursion (λ k. P (key_tree k)) ks
+each_key P [] h = tt
+each_key P (k ∷ ks) h = (h.0, each_key P ks h.1)
 
-each-append : (n : ℕ) (xs ys : List KeySpec) → AllByRecursion (λ (t : KeySpec). t.depth ≡ n) xs → AllByRecursion (λ (t : KeySpec). t.depth ≡ n) ys → AllByRecursion (λ (t : KeySpec). t.depth ≡ n) (xs ++ ys)
-each-append n [] ys h k = k
-each-append n (x ∷ xs) ys h k = (h.0, each-append n xs ys h.1 k)
+-- ---- the trees of a plan
 
-each_slot : (n : ℕ) (trees : List KeySpec) (slots : List ℕ) → AllByRecursion (λ (t : KeySpec). t.depth ≡ n) trees → AllByRecursion (λ (t : KeySpec). t.depth ≡ n) (flat_map (λ i. trees) slots)
-each_slot n trees [] h = tt
-each_slot n trees (s ∷ ss) h = each-append n trees (flat_map (λ i. trees) ss) h (each_slot n trees ss h)
+each_slot : (P : KeySpec → Type 0) (trees : List KeySpec) (slots : List ℕ) → AllByRecursion P trees → AllByRecursion P (flat_map (λ i. trees) slots)
+each_slot P trees [] h = tt
+each_slot P trees (s ∷ ss) h = each-append P trees (flat_map (λ i. trees) ss) h (each_slot P trees ss h)
 
-sum_depths : (range : Bool) (n w : ℕ) → AllByRecursion (λ (t : KeySpec). t.depth ≡ n) (slot_trees kind.Sum range n w)
-sum_depths true n w = (refl, (refl, tt))
-sum_depths false n w = (refl, tt)
+-- where there are trees, the first of them has so many levels
+abbrev Begins : ℕ → List KeySpec → Type 0
+Begins n ts = 0 < length ts → first_depth ts ≡ n
 
-only_sums : (k : PlanKind) (next : Result (Unit {0}) ProviderFault) → (if_sum k >>= (λ built. next)) ≡ Ok tt → (k ≡ kind.Sum) × (next ≡ Ok tt)
-only_sums kind.Sum next h = (refl, h)
-only_sums kind.Point next h = absurd cc
-only_sums kind.Aligned next h = absurd cc
-only_sums kind.Position next h = absurd cc
+begins_again : (n : ℕ) (ts : List KeySpec) (slots : List ℕ) → Begins n ts → Begins n (flat_map (λ i. ts) slots)
+begins_again n ts [] h some = absurd (omega (arith, some))
+begins_again n [] (s ∷ ss) h some = begins_again n [] ss h some
+begins_again n (t ∷ ts) (s ∷ ss) h some = h (omega arith)
+
+module _ (n w : ℕ) where
+  levels_within : (js : List ℕ) → AllByRecursion (λ (t : KeySpec). t.depth ≤ n) (flat_map (λ j. replicate 2 (tree tree_kind.Point (n - j))) js)
+  levels_within [] = tt
+  levels_within (j ∷ js) = (omega arith, (omega arith, levels_within js))
+
+  slot_within : (k : PlanKind) (range : Bool) → AllByRecursion (λ (t : KeySpec). t.depth ≤ n) (slot_trees k range n w)
+  slot_within kind.Sum false = (omega arith, tt)
+  slot_within kind.Sum true = (omega arith, (omega arith, tt))
+  slot_within kind.Point range = (omega arith, tt)
+  slot_within kind.Aligned range = levels_within (range_with_len 0 w)
+  slot_within kind.Position range = (omega arith, (omega arith, tt))
+
+  sum_exact : (range : Bool) → AllByRecursion (λ (t : KeySpec). t.depth ≡ n) (slot_trees kind.Sum range n w)
+  sum_exact false = (refl, tt)
+  sum_exact true = (refl, (refl, tt))
+
+levels_begin : (n w : ℕ) → Begins n (level_trees n w)
+levels_begin n zero some = absurd (omega (arith, some))
+levels_begin n (suc w) some = omega arith
+
+slot_begins : (n w : ℕ) (k : PlanKind) (range : Bool) → Begins n (slot_trees k range n w)
+slot_begins n w kind.Sum false some = refl
+slot_begins n w kind.Sum true some = refl
+slot_begins n w kind.Point range some = refl
+slot_begins n w kind.Aligned range some = levels_begin n w some
+slot_begins n w kind.Position range some = refl
+
+second_none : (k : PlanKind) (rows : ℕ) → is_built k ≡ true → second_trees k rows ≡ []
+second_none kind.Sum rows built = refl
+second_none kind.Point rows built = refl
+second_none kind.Aligned rows built = refl
+second_none kind.Position rows built = absurd cc
+
+none_each : (trees : List KeySpec) (slots : List ℕ) → trees ≡ [] → flat_map (λ i. trees) slots ≡ []
+none_each trees [] none = refl
+none_each trees (s ∷ ss) none = ap₂ (λ a b. a ++ b) none (none_each trees ss none)
+
+-- ---- the keys of a frame that is answered
+
+built_parts : (k : PlanKind) (next : Result (Unit {0}) ProviderFault) → (if_built k >>= (λ built. next)) ≡ Ok tt → (is_built k ≡ true) × (next ≡ Ok tt)
+built_parts kind.Sum next h = (refl, h)
+built_parts kind.Point next h = (refl, h)
+built_parts kind.Aligned next h = (refl, h)
+built_parts kind.Position next h = absurd cc
 
 placed_none : (o : Option ℕ) → if_placed o ≡ Ok tt → o ≡ None
 placed_none None h = refl
 placed_none (Some i) h = absurd cc
 
-module _ (table : TableParts) (checked : Checked) where
-  deep : List KeySpec → Type 0
-  deep trees = AllByRecursion (λ (t : KeySpec). t.depth ≡ checked.bits) trees
+-- a plan that is answered, and the keys of the trees of its first round
+pub record AreFirst (table : TableParts) (checked : Checked) (frame : KeyFrame) : Type 0 where
+  pub built : is_built (kind_of checked table.shape.schema.columns) ≡ true
+  pub round : frame.round ≡ 1
+  pub trees : (plan_of checked table.shape).first ≡ map key_tree frame.keys
 
-  plan_depths : (round : ℕ) → kind_of checked table.shape.schema.columns ≡ kind.Sum → AllByRecursion (λ (t : KeySpec). t.depth ≡ checked.bits) (trees_in (plan_of checked table.shape) round)
-  plan_depths round sums = chosen (eqb round 2) where
-    first : AllByRecursion (λ (t : KeySpec). t.depth ≡ checked.bits) (plan_of checked table.shape).first
-    first = rw sums (each_slot checked.bits (slot_trees kind.Sum checked.range checked.bits _) (range_with_len 0 checked.branches) (sum_depths checked.range checked.bits _))
-
-    second : AllByRecursion (λ (t : KeySpec). t.depth ≡ checked.bits) (plan_of checked table.shape).second
-    second = rw sums (each_slot checked.bits [] (range_with_len 0 checked.branches) tt)
-
-    chosen : (b : Bool) → AllByRecursion (λ (t : KeySpec). t.depth ≡ checked.bits) (cond b (plan_of checked table.shape).second (plan_of checked table.shape).first)
-    chosen true = second
-    chosen false = first
-
-  -- each key has as many levels as the joined key has bits
-  pub key_depths : (frame : KeyFrame) → keys_placed table frame checked ≡ Ok tt → AllByRecursion (λ (k : Key). depth k ≡ checked.bits) frame.keys
+module _ (table : TableParts) (checked : Checked) (frame : KeyFrame) where
+  -- the keys of a plan that is answered are those of its first round
+  pub placed_first : keys_placed table frame checked ≡ Ok tt → FrameAllowed frame → AreFirst table checked frame
   unfolding keys_placed
-  key_depths frame h =
-      let parts = only_sums (kind_of checked table.shape.schema.columns) (if_placed (layout_differs 0 (trees_in (plan_of checked table.shape) frame.round) frame.keys)) h in
-      layout_depths checked.bits 0 (trees_in (plan_of checked table.shape) frame.round) frame.keys (placed_none _ parts.1) (plan_depths frame.round parts.0)
-
-  -- the keys of a sum are those of the first round
-  pub sum_placed : (frame : KeyFrame) → keys_placed table frame checked ≡ Ok tt → FrameAllowed frame
-      → ((plan_of checked table.shape).kind ≡ kind.Sum) × ((frame.round ≡ 1) × (length frame.keys ≡ length (plan_of checked table.shape).first))
-  unfolding keys_placed
-  sum_placed frame h allowed =
+  placed_first h allowed =
       let plan = plan_of checked table.shape in
-      let parts = only_sums (kind_of checked table.shape.schema.columns) (if_placed (layout_differs 0 (trees_in plan frame.round) frame.keys)) h in
-      let count = layout_count 0 (trees_in plan frame.round) frame.keys (placed_none _ parts.1) in
-      (parts.0, by_round (eqb frame.round 2) refl count) where
-        none_asked : (slots : List ℕ) → length (flat_map (λ (i : ℕ). second_trees kind.Sum table.shape.rows) slots) ≡ 0
-        none_asked [] = refl
-        none_asked (s ∷ ss) = none_asked ss
+      let parts = built_parts (kind_of checked table.shape.schema.columns) (if_placed (layout_differs 0 (trees_in plan frame.round) frame.keys)) h in
+      let trees = layout_trees 0 (trees_in plan frame.round) frame.keys (placed_none _ parts.1) in
+      by_round (eqb frame.round 2) refl parts.0 trees where
+        by_round : (b : Bool) → eqb frame.round 2 ≡ b → is_built (kind_of checked table.shape.schema.columns) ≡ true
+            → cond b (plan_of checked table.shape).second (plan_of checked table.shape).first ≡ map key_tree frame.keys → AreFirst table checked frame
+        by_round true is built trees =
+            let none = ap (λ (ts : List KeySpec). length ts) (sym trees ∙ none_each _ (range_with_len 0 checked.branches) (second_none (kind_of checked table.shape.schema.columns) table.shape.rows built)) in
+            absurd (omega (arith, none, length-map frame.keys key_tree, allowed.count.0))
+        by_round false is built trees = record { built = built; round = (let other = eqb-false frame.round 2 is in omega (arith, other, allowed.round.0, allowed.round.1)); trees = trees }
 
-        no_second : kind_of checked table.shape.schema.columns ≡ kind.Sum → length (plan_of checked table.shape).second ≡ 0
-        no_second sums = rw sums (none_asked (range_with_len 0 checked.branches))
+  module _ (are : AreFirst table checked frame) where
+    abbrev columns_bits : ℕ
+    columns_bits = last_bits table.shape.schema.columns checked.columns
 
-        by_round : (b : Bool) → eqb frame.round 2 ≡ b → length frame.keys ≡ length (cond b (plan_of checked table.shape).second (plan_of checked table.shape).first) → (frame.round ≡ 1) × (length frame.keys ≡ length (plan_of checked table.shape).first)
-        by_round true is count = absurd (let sums = (only_sums (kind_of checked table.shape.schema.columns) _ h).0 in let none = no_second sums in omega (arith, count, none, allowed.count.0))
-        by_round false is count = (let other = eqb-false frame.round 2 is in omega (arith, other, allowed.round.0, allowed.round.1), count)
+    pub first_count : length frame.keys ≡ length (plan_of checked table.shape).first
+    first_count = sym (length-map frame.keys key_tree) ∙ ap (λ (ts : List KeySpec). length ts) (sym are.trees)
+
+    -- no key has more levels than the joined key has bits
+    pub depths_within : AllByRecursion (λ (k : Key). depth k ≤ checked.bits) frame.keys
+    depths_within =
+        let P : KeySpec → Type 0 = λ t. t.depth ≤ checked.bits in
+        let slot = slot_within checked.bits columns_bits (kind_of checked table.shape.schema.columns) checked.range in
+        each_key P frame.keys (subst (AllByRecursion P) are.trees (each_slot P _ (range_with_len 0 checked.branches) slot))
+
+    -- nor fewer, for a sum
+    pub depths_exact : kind_of checked table.shape.schema.columns ≡ kind.Sum → AllByRecursion (λ (k : Key). depth k ≡ checked.bits) frame.keys
+    depths_exact sums =
+        let P : KeySpec → Type 0 = λ t. t.depth ≡ checked.bits in
+        let slot : AllByRecursion P (slot_trees (kind_of checked table.shape.schema.columns) checked.range checked.bits columns_bits) = rw sums (sum_exact checked.bits columns_bits checked.range) in
+        each_key P frame.keys (subst (AllByRecursion P) are.trees (each_slot P _ (range_with_len 0 checked.branches) slot))
+
+    -- the first tree has as many levels as the joined key has bits
+    pub first_begins : 0 < length frame.keys → first_depth (plan_of checked table.shape).first ≡ checked.bits
+    first_begins some =
+        let slot = slot_begins checked.bits columns_bits (kind_of checked table.shape.schema.columns) checked.range in
+        begins_again checked.bits _ (range_with_len 0 checked.branches) slot (omega (arith, some, first_count))
+
+-- ---- cells for keys
+
+-- a plan that is answered and isn't one of sums has a cell for each key
+pub brings_of : (k : PlanKind) → is_built k ≡ true → (k ≡ kind.Point) ⊎ ((k ≡ kind.Aligned) ⊎ (k ≡ kind.Position)) → brings_cells k ≡ true
+brings_of kind.Sum built (inl is) = absurd cc
+brings_of kind.Sum built (inr (inl is)) = absurd cc
+brings_of kind.Sum built (inr (inr is)) = absurd cc
+brings_of kind.Point built other = refl
+brings_of kind.Aligned built other = refl
+brings_of kind.Position built other = absurd cc
+
+-- whose words are those of so many cells
+pub words_for : (k : PlanKind) (trees width : ℕ) → brings_cells k ≡ true → words_back k trees width ≡ trees * width
+words_for kind.Sum trees width brings = absurd cc
+words_for kind.Point trees width brings = refl
+words_for kind.Aligned trees width brings = refl
+words_for kind.Position trees width brings = absurd cc
+
+pub words_for_sum : (k : PlanKind) (trees width : ℕ) → k ≡ kind.Sum → words_back k trees width ≡ width
+words_for_sum k trees width is = ap (λ (x : PlanKind). words_back x trees width) is
+
+cells_fit : (trees width : ℕ) → (1 ≤ trees) × (trees ≤ 512) → (1 ≤ width) × (width ≤ 128) → (1 ≤ trees * width) × (trees * width ≤ 65536)
+cells_fit trees width t w =
+    let least : 1 * width ≤ trees * width = mul-le-mul_right width t.0 in
+    let most : trees * width ≤ 512 * width = mul-le-mul_right width t.1 in
+    (omega (arith, least, w.0), omega (arith, most, w.1))
+
+-- an answer has 1 to 2^16 words
+pub words_fit : (k : PlanKind) (trees width : ℕ) → is_built k ≡ true → (1 ≤ trees) × (trees ≤ 512) → (1 ≤ width) × (width ≤ 128) → (1 ≤ words_back k trees width) × (words_back k trees width ≤ 65536)
+words_fit kind.Sum trees width built t w = (w.0, omega (arith, w.1))
+words_fit kind.Point trees width built t w = cells_fit trees width t w
+words_fit kind.Aligned trees width built t w = cells_fit trees width t w
+words_fit kind.Position trees width built t w = absurd cc

@@ -5,7 +5,7 @@ use Rattle.std.proofs.lemmas.List.{take_more, take_all}
 use Rattle.std.proofs.lemmas.List.Sums.{sum_by-cons}
 use Rattle.std.proofs.Math.Nat.{add-mul, zero-mul, add-zero, mod-eq_of_lt}
 use Rattle.spl_words.specs.Words.{plus}
-use Rattle.spl_words.specs.Folds.{Gains, IsFold, fold_word}
+use Rattle.spl_words.specs.Folds.{Gains, IsFold}
 use Rattle.spl_words.specs.declared.provider.Provider.{Provider}
 use Rattle.seed_expansion.specs.Expanders.{Meaning}
 use Rattle.key_frames.specs.declared.keys.Key.{Key}

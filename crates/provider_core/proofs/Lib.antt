@@ -4,3 +4,6 @@ pub mod KeyDepths
 pub mod CellWidths
 pub mod KeySums
 pub mod RowSums
+pub mod Places
+pub mod LevelCells
+pub mod AnswerWords

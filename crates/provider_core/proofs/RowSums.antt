@@ -1,5 +1,5 @@
 -- The words of a fold over a table's entries are those of an answer.
-use Rattle.std.proofs.Common.{◌≡◌, ◌<◌, ◌%◌, ◌^◌, ℕ, List, [], ◌∷◌, arith, length, map, refl, ap, ◌∙◌, slice_index, replicate, zero-add}
+use Rattle.std.proofs.Common.{◌≡◌, ◌<◌, ◌^◌, ℕ, List, [], ◌∷◌, arith, length, map, ap, ◌∙◌, slice_index, replicate}
 use Rattle.std.specs.List.{AllByRecursion, flat_map}
 use Rattle.std.proofs.lemmas.List.{get_or-replicate}
 use Rattle.std.proofs.lemmas.List.FromFn.{fill_by_all}

@@ -3,3 +3,4 @@ pub mod Lines
 pub mod Layouts
 pub mod Asking
 pub mod Answering
+pub mod Cells

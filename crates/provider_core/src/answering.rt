@@ -1,11 +1,8 @@
 //! The answer to a key frame.
-ghost use Rattle.std.specs.Prelude.{◌≡◌, ◌+◌, ◌*◌, ◌^◌, ◌<◌, ◌≤◌, ℕ, All, List, length, replicate, vec_len, IfOk, IfErr};
+ghost use Rattle.std.specs.Prelude.{◌≡◌, ◌+◌, ◌*◌, ◌≤◌, length, vec_len, IfOk, IfErr};
 ghost use Rattle.spl_words.specs.Results.{Gives};
-ghost use Rattle.spl_words.specs.Folds.{AreEntries, fold_words};
 ghost use Rattle.answer_frames.specs.Spelling.{Allowed, spelling};
-ghost use Rattle.key_frames.specs.Keys.{depth};
 ghost use Rattle.session_model.specs.Answers.{answer_bytes};
-ghost use Rattle.key_frames.specs.Trees.{key_shares};
 ghost use Rattle.provider_core.specs.Answering.{answered};
 ghost use Rattle.provider_core.specs.Asking.{IsRequest};
 ghost use Rattle.provider_core.specs.Faults.{OwnsMemory};
@@ -13,11 +10,11 @@ ghost use Rattle.provider_core.specs.declared.fault.ProviderFault.TheVariants.{O
 
 use crate::asked::{Request, judge};
 use crate::fault::ProviderFault;
-use crate::words::{Folding, add_keys};
+use crate::words::{Folding, fill_words, first_cells};
 use answer_frames::{AnswerFrame, fill_answer};
-use count_sum::row_cells;
 use csv_tables::table_digest;
-use key_frames::{Key, frame_digest};
+use key_frames::frame_digest;
+use private_plan::plan;
 use query_reader::laws::{accepted_has_cells, accepted_has_keys};
 use seed_expansion::Expander;
 use share_eval::{Gate, Lane};
@@ -25,34 +22,6 @@ use spl_values::Table;
 use spl_words::{Provider, Words};
 use std::alloc::{AllocError, Global};
 use std::thread::Threads;
-
-/// The words of an answer, in the room for them, which is all zeros.
-fn words_of<T: Threads + Sync, E: Expander + Sync, G: Gate + Sync>(
-    rt: &T,
-    gate: &G,
-    folding: &Folding<E>,
-    keys: &[Key],
-    lanes: &mut [Lane],
-    part: &mut [u64],
-    room: Vec<u64>,
-) -> Words
-    requires workers { (1 ≤ length lanes.old) × (length lanes.old ≤ 64) }
-    requires width { (1 ≤ vec_len room) × (vec_len room ≤ 128) }
-    requires zeros { room.items ≡ replicate (vec_len room) 0 }
-    requires part { length part.old ≡ vec_len room }
-    requires few { length folding.now.rows.now.keys ≤ 2 ^ 32 }
-    requires keys { length keys.now ≤ 512 }
-    requires levels { All (λ key. depth key ≤ 128) keys.now }
-    requires bits { All (λ key. All (λ x. x < 2 ^ depth key) folding.now.rows.now.keys) keys.now }
-    requires cells { length folding.now.rows.now.cells ≡ length folding.now.rows.now.keys * vec_len room }
-    ensures words { (entries : List (ℕ × List ℕ)) → AreEntries (vec_len room) entries folding.now.rows.now.keys folding.now.rows.now.cells
-        → result ≡ fold_words (key_shares (E.meaning folding.now.expander.now) folding.now.provider 0 keys.now) entries (vec_len room) }
-    ensures count { length result ≡ vec_len room }
-{
-    let mut words = room;
-    add_keys(rt, gate, folding, keys, lanes, part, &mut words);
-    Words::from_vec(words)
-}
 
 /// The bytes of an answer frame, in the room for them.
 fn bytes_of(frame: &AnswerFrame, room: Vec<u8>) -> Vec<u8>
@@ -85,27 +54,29 @@ fn reply<T: Threads + Sync, E: Expander + Sync, G: Gate + Sync>(
     let _ = table.shape();
     accepted_has_cells();
     accepted_has_keys();
-    let rows = row_cells(alloc, &asked.checked, table)?;
+    let plan = plan(alloc, &asked.checked, table.shape())?;
+    let mut cells = first_cells(alloc, plan.kind, &asked.checked, table)?;
     let digest = table_digest(alloc, table)?;
-    let width = rows.width as usize;
     let mut lanes = vec![in alloc; Lane { sums: [0; 128] }; workers]?;
-    let mut part = vec![in alloc; 0u64; width]?;
-    let words = vec![in alloc; 0u64; width]?;
-    let room = vec![in alloc; 0u8; 123 + 8 * width]?;
+    let mut part = vec![in alloc; 0u64; cells.width as usize]?;
+    let mut words = vec![in alloc; 0u64; plan.first_words as usize]?;
+    let room = vec![in alloc; 0u8; 123 + 8 * plan.first_words as usize]?;
     let folding = Folding {
         expander,
         provider,
-        rows: &rows,
+        asked,
+        table,
     };
-    let keys = asked.frame.keys.as_slice();
-    let words = words_of(rt, gate, &folding, keys, &mut lanes, &mut part, words);
+    fill_words(
+        rt, gate, &folding, plan.kind, &mut cells, &mut lanes, &mut part, &mut words,
+    );
     let frame = AnswerFrame {
         session: asked.frame.session,
         round: asked.frame.round,
         provider,
         key: frame_digest(bytes),
         table: digest,
-        words,
+        words: Words::from_vec(words),
     };
     Ok(bytes_of(&frame, room))
 }

@@ -1,24 +1,23 @@
 //! Whether a frame's keys are those that the plan asks for.
 ghost use Rattle.std.specs.Prelude.{◌≡◌, ◌≤◌, ◌↔◌, IsTrue, length, slice_get};
 ghost use Rattle.private_plan.specs.Lengths.{trees_in as trees_of_round};
-ghost use Rattle.provider_core.specs.Asking.{if_placed, if_sum};
+ghost use Rattle.provider_core.specs.Asking.{if_built, if_placed};
 ghost use Rattle.provider_core.specs.Layouts.{has_kind as is_of_kind, is_key_of as is_of_tree, layout_differs as first_difference, IsPlaced};
 ghost use Rattle.key_frames.specs.Keys.{depth as depth_of};
 
 use crate::fault::ProviderFault;
 use key_frames::Key;
-use private_plan::{KeySpec, Plan, PlanKind};
+use private_plan::{KeySpec, Plan, PlanKind, is_built};
 use spl_words::TreeKind;
 
 /// Whether a plan of that kind is answered.
 pub fn check_kind(kind: PlanKind) -> Result<(), ProviderFault>
-    ensures { result ≡ if_sum kind }
+    ensures { result ≡ if_built kind }
 {
-    match kind {
-        PlanKind::Sum => Ok(()),
-        PlanKind::Point | PlanKind::Aligned | PlanKind::Position => {
-            Err(ProviderFault::NotBuilt(kind))
-        }
+    if is_built(kind) {
+        Ok(())
+    } else {
+        Err(ProviderFault::NotBuilt(kind))
     }
 }
 
@@ -34,7 +33,7 @@ fn has_kind(kind: TreeKind, key: &Key) -> bool
 }
 
 /// The number of a key's levels.
-fn depth(key: &Key) -> usize
+pub fn depth(key: &Key) -> usize
     ensures { result ≡ depth_of key.now }
 {
     match key {

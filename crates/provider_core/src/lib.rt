@@ -6,7 +6,9 @@ mod answering;
 mod asked;
 mod fault;
 mod layout;
+mod levels;
 mod shapes;
+mod sums;
 mod words;
 
 pub use answering::answer;

@@ -1,48 +1,84 @@
-//! The words of an answer: for each key the sum over all rows of its share times the row's cell.
-ghost use Rattle.std.specs.Prelude.{◌≡◌, ◌*◌, ◌^◌, ◌<◌, ◌≤◌, ℕ, All, List, length, slice_index};
-ghost use Rattle.spl_words.specs.Words.{plus};
-ghost use Rattle.spl_words.specs.Folds.{AreEntries, Gains, IsFold};
+//! What the words of an answer are folded from, and how.
+ghost use Rattle.std.specs.Prelude.{◌≡◌, ◌*◌, ◌^◌, ◌<◌, ◌≤◌, ℕ, All, List, Ok, length, replicate, IfOk};
+ghost use Rattle.spl_words.specs.Folds.{AreEntries, IsFold};
+ghost use Rattle.cell_merge.specs.Cells.{cell_width};
+ghost use Rattle.query_reader.specs.Accepted.{IsCheckedFor};
+ghost use Rattle.key_frames.specs.Frames.{FrameAllowed};
 ghost use Rattle.key_frames.specs.Keys.{depth};
-ghost use Rattle.key_frames.specs.Trees.{key_share, key_shares};
+ghost use Rattle.key_frames.specs.Trees.{key_share};
+ghost use Rattle.private_plan.specs.Plans.{kind_of, plan_of};
+ghost use Rattle.session_model.specs.Answers.{answer_words};
+ghost use Rattle.provider_core.specs.Asking.{keys_placed};
+ghost use Rattle.provider_core.specs.Cells.{AreCells, first_entries};
 
+use crate::asked::Request;
+use crate::levels::fold_levels;
+use crate::sums::add_keys;
 use cell_merge::CellTable;
+use count_sum::row_cells;
 use interval_keys::ThresholdEval;
 use key_frames::Key;
+use max_min_topk::key_cells;
 use point_keys::PointEval;
+use private_plan::PlanKind;
+use query_reader::Checked;
+use query_reader::laws::{accepted_has_cells, accepted_has_keys};
 use seed_expansion::Expander;
 use share_eval::{Gate, Lane, fold_shares};
-use spl_words::{Provider, plus};
+use spl_values::Table;
+use spl_words::Provider;
+use std::alloc::{AllocError, Global};
 use std::thread::Threads;
 
-/// What a provider folds the rows of a query with, under each of its keys.
+/// What a provider answers, and over which table.
 #[derive(Drop)]
 pub struct Folding<'a, E: Expander> {
     pub expander: &'a E,
     pub provider: Provider,
-    pub rows: &'a CellTable,
+    pub asked: &'a Request,
+    pub table: &'a Table,
 }
 
-/// The sums of the shares under one key, in a tree of that number, times the rows' cells.
-fn fold_key<T: Threads + Sync, E: Expander + Sync, G: Gate + Sync>(
+/// The cells that the folds of a plan of that kind begin with.
+pub fn first_cells(
+    alloc: Global,
+    kind: PlanKind,
+    checked: &Checked,
+    table: &Table,
+) -> Result<CellTable, AllocError>
+    requires { IsCheckedFor checked.now table.now.shape.schema }
+    ensures { IfOk result (AreCells checked.now table.now (first_entries kind) checked.now.bits) }
+{
+    match kind {
+        PlanKind::Sum => row_cells(alloc, checked, table),
+        PlanKind::Point | PlanKind::Aligned | PlanKind::Position => {
+            key_cells(alloc, checked, table)
+        }
+    }
+}
+
+/// Sets `out` to the sums of the shares under one key, in a tree of that number, times the cells.
+pub fn fold_key<T: Threads + Sync, E: Expander + Sync, G: Gate + Sync>(
     rt: &T,
     gate: &G,
     folding: &Folding<E>,
     tree: u32,
     key: &Key,
+    cells: &CellTable,
     lanes: &mut [Lane],
     out: &mut [u64],
 )
     requires workers { (1 ≤ length lanes.old) × (length lanes.old ≤ 64) }
     requires width { (1 ≤ length out.old) × (length out.old ≤ 128) }
-    requires few { length folding.now.rows.now.keys ≤ 2 ^ 32 }
+    requires few { length cells.now.keys ≤ 2 ^ 32 }
     requires levels { depth key.now ≤ 128 }
-    requires bits { All (λ x. x < 2 ^ depth key.now) folding.now.rows.now.keys }
-    requires cells { length folding.now.rows.now.cells ≡ length folding.now.rows.now.keys * length out.old }
-    ensures { (entries : List (ℕ × List ℕ)) → AreEntries (length out.old) entries folding.now.rows.now.keys folding.now.rows.now.cells
+    requires bits { All (λ x. x < 2 ^ depth key.now) cells.now.keys }
+    requires whole { length cells.now.cells ≡ length cells.now.keys * length out.old }
+    ensures { (entries : List (ℕ × List ℕ)) → AreEntries (length out.old) entries cells.now.keys cells.now.cells
         → IsFold (key_share (E.meaning folding.now.expander.now) folding.now.provider tree key.now) entries (length out.old) out.new }
 {
-    let keys = folding.rows.keys.as_slice();
-    let cells = folding.rows.cells.as_slice();
+    let keys = cells.keys.as_slice();
+    let cells = cells.cells.as_slice();
     let width = out.len();
     let workers = lanes.len();
     match key {
@@ -57,40 +93,36 @@ fn fold_key<T: Threads + Sync, E: Expander + Sync, G: Gate + Sync>(
     }
 }
 
-/// Adds words place by place.
-fn add_words(words: &mut [u64], part: &[u64])
-    requires { length words.old ≤ length part.now }
-    ensures { (k : ℕ) → k < length words.old → slice_index words.new k ≡ plus (slice_index words.old k) (slice_index part.now k) }
-{
-    for (k, word) in words.iter_mut().enumerate() {
-        *word = plus(*word, part[k]);
-    }
-}
-
-/// Adds, for each key of a frame, the sums of the shares under it times the rows' cells. The keys' trees are numbered
-/// from 0. What `part` holds, which has as many words, means nothing.
-pub fn add_keys<T: Threads + Sync, E: Expander + Sync, G: Gate + Sync>(
+/// Leaves the words of an answer, for a plan of that kind and the cells that its folds begin with, in words that are all
+/// zeros. What `part` holds, which has as many words as a cell, means nothing. Takes no memory.
+pub fn fill_words<T: Threads + Sync, E: Expander + Sync, G: Gate + Sync>(
     rt: &T,
     gate: &G,
     folding: &Folding<E>,
-    keys: &[Key],
+    kind: PlanKind,
+    cells: &mut CellTable,
     lanes: &mut [Lane],
     part: &mut [u64],
     words: &mut [u64],
 )
+    requires checked { IsCheckedFor folding.now.asked.now.checked folding.now.table.now.shape.schema }
+    requires allowed { FrameAllowed folding.now.asked.now.frame }
+    requires placed { keys_placed folding.now.table.now folding.now.asked.now.frame folding.now.asked.now.checked ≡ Ok tt }
+    requires kind { kind ≡ kind_of folding.now.asked.now.checked folding.now.table.now.shape.schema.columns }
+    requires cells { AreCells folding.now.asked.now.checked folding.now.table.now (first_entries kind) folding.now.asked.now.checked.bits cells.old }
     requires workers { (1 ≤ length lanes.old) × (length lanes.old ≤ 64) }
-    requires width { (1 ≤ length words.old) × (length words.old ≤ 128) }
-    requires part { length part.old ≡ length words.old }
-    requires few { length folding.now.rows.now.keys ≤ 2 ^ 32 }
-    requires keys { length keys.now ≤ 512 }
-    requires levels { All (λ key. depth key ≤ 128) keys.now }
-    requires bits { All (λ key. All (λ x. x < 2 ^ depth key) folding.now.rows.now.keys) keys.now }
-    requires cells { length folding.now.rows.now.cells ≡ length folding.now.rows.now.keys * length words.old }
-    ensures { (entries : List (ℕ × List ℕ)) → AreEntries (length words.old) entries folding.now.rows.now.keys folding.now.rows.now.cells
-        → Gains (key_shares (E.meaning folding.now.expander.now) folding.now.provider 0 keys.now) entries (length words.old) words.old words.new }
+    requires part { length part.old ≡ cell_width folding.now.asked.now.checked.spec }
+    requires room { words.old ≡ replicate (plan_of folding.now.asked.now.checked folding.now.table.now.shape).first_words 0 }
+    ensures { words.new ≡ answer_words (E.meaning folding.now.expander.now) folding.now.provider folding.now.asked.now.frame.round folding.now.asked.now.frame.keys folding.now.asked.now.checked folding.now.table.now }
 {
-    for (tree, key) in keys.iter().enumerate() {
-        fold_key(rt, gate, folding, tree as u32, key, lanes, part);
-        add_words(words, part);
+    // What the table and the accepted query keep.
+    let _ = folding.table.shape();
+    accepted_has_cells();
+    accepted_has_keys();
+    match kind {
+        PlanKind::Sum => add_keys(rt, gate, folding, cells, lanes, part, words),
+        PlanKind::Point | PlanKind::Aligned | PlanKind::Position => {
+            fold_levels(rt, gate, folding, cells, lanes, words)
+        }
     }
 }

@@ -1,6 +1,6 @@
 use Rattle.std.proofs.Common.{◌≡◌, ℕ, ◌<◌, ◌≤◌, slice_index}
 use Rattle.spl_words.specs.Words.{plus}
-use Rattle.provider_core.proofs.words.add_words.Given as goal
+use Rattle.provider_core.proofs.sums.add_words.Given as goal
 
 abbrev pub invariant-loop-k : goal.invariant-loop-k
 invariant-loop-k l = record {
