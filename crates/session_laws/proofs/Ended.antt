@@ -6,7 +6,6 @@ use Rattle.spl_values.specs.Tables.{TableParts, IsTable}
 use Rattle.seed_expansion.specs.Expanders.{Meaning, IsPure}
 use Rattle.query_tokens.specs.Printing.{canonical_text}
 use Rattle.query_reader.specs.declared.checked.Checked.{Checked}
-use Rattle.query_reader.specs.Accepted.{IsCheckedFor}
 use Rattle.query_reader.proofs.Codes.{answered_known}
 use Rattle.judged_queries.specs.Queries.{checked_in}
 use Rattle.key_frames.specs.Frames.{KeyFrameOf}

@@ -1,5 +1,5 @@
 -- The keys of a round lie as the plan of its query asks.
-use Rattle.std.proofs.Common.{◌≡◌, ℕ, ◌+◌, true, List, [], ◌∷◌, length, map, drop, None, Ok, refl, sym, ap, subst, ◌∙◌, arith}
+use Rattle.std.proofs.Common.{◌≡◌, ℕ, ◌+◌, true, List, [], ◌∷◌, length, map, drop, None, Ok, refl, sym, subst, arith}
 use Rattle.std.proofs.lemmas.Bool.{eq-eqb}
 use Rattle.spl_words.specs.declared.provider.Provider.{Provider}
 use Rattle.spl_words.specs.declared.secret.KeySpec.{KeySpec}
@@ -9,7 +9,7 @@ use Rattle.spl_words.specs.Secrets.{Secret, secret_tree}
 use Rattle.spl_values.specs.Tables.{TableParts}
 use Rattle.seed_expansion.specs.Expanders.{Meaning}
 use Rattle.query_reader.specs.declared.checked.Checked.{Checked}
-use Rattle.private_plan.specs.Plans.{IsBuilt, is_built, plan_of, tree}
+use Rattle.private_plan.specs.Plans.{IsBuilt, plan_of, tree}
 use Rattle.private_plan.specs.Lengths.{trees_in}
 use Rattle.private_plan.specs.Rounds.{first_round, secrets_in}
 use Rattle.private_plan.proofs.Accepted.{secrets_laid}
