@@ -1,1 +1,3 @@
+pub mod Pairs
+pub mod Runs
 pub mod Sorted

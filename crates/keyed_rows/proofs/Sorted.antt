@@ -1,15 +1,14 @@
 -- The kept rows of a table with their keys, and the rows that they are.
-use Rattle.std.proofs.Common.{◌≡◌, ℕ, zero, suc, ◌+◌, ◌*◌, ◌^◌, ◌<◌, ◌≤◌, Bool, true, false, not, ◌&&◌, cond, eqb, ltb, inl, inr, List, [], ◌∷◌, ◌++◌, length, map, get_or, refl, ap, sym, subst, ◌∙◌, arith}
+use Rattle.std.proofs.Common.{◌≡◌, ℕ, zero, suc, ◌+◌, ◌^◌, ◌<◌, ◌≤◌, Bool, true, false, not, ◌&&◌, cond, eqb, ltb, inl, inr, List, [], ◌∷◌, ◌++◌, length, map, get_or, refl, ap, sym, ◌∙◌, arith}
 use Rattle.std.specs.Prelude.{All, slice_index_or}
-use Rattle.std.specs.List.{AllByRecursion, filter, flat_map, range_with_len}
+use Rattle.std.specs.List.{AllByRecursion, filter, range_with_len}
 use Rattle.std.specs.List.Sorted.{IsNonDecreasingBy, IsStableByKey, ties}
 use Rattle.std.specs.Ordering.{is_lt, nat_cmp}
 use Rattle.std.specs.declared.cmp.Ordering.TheVariants.{Less, Equal, Greater}
 use Rattle.std.proofs.lemmas.Bool.{cases_order, eq-eqb, ne_eqb, lt-ltb, le-ltb}
-use Rattle.std.proofs.lemmas.List.{append-nil, map-append, get_or-map, length-map}
+use Rattle.std.proofs.lemmas.List.{map-append, get_or-map, length-map}
 use Rattle.std.proofs.lemmas.List.Elements.{filter_agree}
 use Rattle.std.proofs.lemmas.Simd.{map-map}
-use Rattle.std.proofs.lemmas.Grind.{flat_map-append}
 use Rattle.spl_values.specs.Tables.{IsTable, TableParts, key_bits}
 use Rattle.spl_values.proofs.RowLaws.{keys_below}
 use Rattle.cell_merge.specs.Rows.{Row, Apart}
@@ -22,8 +21,7 @@ use Rattle.query_reader.specs.declared.checked.Checked.{Checked}
 use Rattle.query_reader.specs.Matching.{is_kept, kept_rows}
 use Rattle.count_sum.specs.SumPairs.{joined_key}
 use Rattle.count_sum.proofs.KeptRows.{rows_to, rows_to-more, filter-kept, filter-left_out}
-use Rattle.cell_runs.specs.CellsBy.{ArePairs, rows_at}
-use Rattle.cell_runs.proofs.Moving.{length-cells, wide-snoc}
+use Rattle.cell_runs.specs.CellsBy.{rows_at}
 use Rattle.keyed_rows.specs.KeyedRows.{IsKeyed, keyed, row_of, row_pair}
 use Rattle.keyed_rows.specs.declared.rows.KeyedRow.{KeyedRow}
 
@@ -156,29 +154,6 @@ module _ (checked : Checked) (t : TableParts) (rows : List KeyedRow) (are : All 
       let second : jk (get_or (map (row_of t) rows) j d) ≡ (get_or rows j e).key = ap jk (get_or-map (row_of t) rows j e d (omega arith)) ∙ sym (are j e (omega arith)).1 in
       let rise = up i j e le (omega arith) in
       omega arith
-
--- ---- a cell more
-
-pub no_pairs : (w : ℕ) (keys cells : List ℕ) → keys ≡ [] → cells ≡ [] → ArePairs w [] keys cells
-no_pairs w keys cells k c = record { each_key = k; each_cell = c; wide = tt }
-
-pub pair_added : (checked : Checked) (t : TableParts) (w : ℕ) (rows : List KeyedRow) (k : KeyedRow) (keys cells : List ℕ) (c : List ℕ)
-    → c ≡ cell (adds_in t.shape.schema.columns) checked.spec (row_in t k.row ∷ []) → length c ≡ w
-    → ArePairs w (map (row_pair checked t) rows) keys cells → ArePairs w (map (row_pair checked t) (rows ++ k ∷ [])) (keys ++ k.key ∷ []) (cells ++ c)
-pair_added checked t w rows k keys cells c is wide are =
-    let pairs = map (row_pair checked t) rows in
-    let p = row_pair checked t k in
-    let more : map (row_pair checked t) (rows ++ k ∷ []) ≡ pairs ++ p ∷ [] = map-append (row_pair checked t) rows (k ∷ []) in
-    subst (λ l. ArePairs w l (keys ++ k.key ∷ []) (cells ++ c)) (sym more) (record {
-      each_key = ap (λ l. l ++ k.key ∷ []) are.each_key ∙ sym (map-append (λ (p : ℕ × List ℕ). p.0) pairs (p ∷ []));
-      each_cell = ap (λ l. l ++ c) are.each_cell ∙ (ap (λ l. flat_map (λ p. p.1) pairs ++ l) (is ∙ sym (append-nil p.1)) ∙ sym (flat_map-append (λ (p : ℕ × List ℕ). p.1) pairs (p ∷ [])));
-      wide = wide-snoc w pairs p are.wide (ap (λ l. length l) (sym is) ∙ wide);
-    })
-
-pub whole_pairs : (checked : Checked) (t : TableParts) (w : ℕ) (rows : List KeyedRow) (keys cells : List ℕ) → ArePairs w (map (row_pair checked t) rows) keys cells → length cells ≡ length keys * w
-whole_pairs checked t w rows keys cells are =
-    let pairs = map (row_pair checked t) rows in
-    ap (λ l. length l) are.each_cell ∙ (length-cells w pairs are.wide ∙ ap (λ n. n * w) (sym (ap (λ l. length l) are.each_key ∙ length-map pairs (λ (p : ℕ × List ℕ). p.0))))
 
 -- ---- keys of kept rows
 

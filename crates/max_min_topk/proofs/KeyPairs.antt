@@ -1,18 +1,19 @@
 -- The cells of the keys, from the sorted rows.
-use Rattle.std.proofs.Common.{◌≡◌, ℕ, ◌^◌, ◌<◌, ◌≤◌, eqb, List, [], ◌∷◌, length, map, refl, ap, sym, subst, ◌∙◌, arith}
+use Rattle.std.proofs.Common.{◌≡◌, ℕ, suc, ◌+◌, ◌^◌, ◌<◌, ◌≤◌, Bool, true, false, cond, eqb, ltb, List, [], ◌∷◌, length, map, refl, ap, sym, subst, ◌∙◌, arith}
 use Rattle.std.specs.Prelude.{All}
-use Rattle.std.specs.List.{AllByRecursion, filter}
+use Rattle.std.specs.List.{AllByRecursion, filter, range_with_len}
 use Rattle.std.specs.List.Sorted.{IsNonDecreasingBy}
 use Rattle.std.proofs.lemmas.List.{length-map}
-use Rattle.spl_words.specs.Rising.{rising}
+use Rattle.std.proofs.lemmas.List.FromFn.{length-range_with_len}
+use Rattle.spl_words.specs.Rising.{put_number, rising}
 use Rattle.spl_words.proofs.Rising.{any-rising}
 use Rattle.spl_values.specs.Tables.{IsTable, TableParts, key_bits}
 use Rattle.cell_merge.specs.Rows.{Row, Apart}
 use Rattle.cell_merge.specs.Cells.{cell}
-use Rattle.cell_merge.specs.TableRows.{adds_in}
-use Rattle.cell_merge.proofs.Lists.{each-map, each_weaker}
+use Rattle.cell_merge.specs.TableRows.{adds_in, row_in, rows_of}
+use Rattle.cell_merge.proofs.Lists.{each-map, each_weaker, length-filter-le}
 use Rattle.query_reader.specs.declared.checked.Checked.{Checked}
-use Rattle.query_reader.specs.Matching.{kept_rows}
+use Rattle.query_reader.specs.Matching.{is_kept, kept_rows}
 use Rattle.count_sum.specs.SumPairs.{joined_key}
 use Rattle.cell_runs.specs.CellsBy.{ArePairs, rows_at}
 use Rattle.cell_runs.specs.Runs.{runs}
@@ -36,6 +37,38 @@ few_bits checked t bits keys is is-bits table =
     numbers : (l : List ℕ) → map (λ (p : ℕ × List ℕ). p.0) (map (λ n. (n, cell (adds_in t.shape.schema.columns) checked.spec (rows_at (joined_key checked t) (kept_rows checked t) n))) l) ≡ l
     numbers [] = refl
     numbers (n ∷ l) = ap (λ r. n ∷ r) (numbers l)
+
+length-put : (x : ℕ) (l : List ℕ) → length (put_number x l) ≤ 1 + length l
+unfolding put_number
+length-put x [] = omega arith
+length-put x (y ∷ l) = step (ltb x y) (eqb x y) (length-put x l)
+  where
+    step : (b c : Bool) → length (put_number x l) ≤ 1 + length l → length (cond b (x ∷ y ∷ l) (cond c (y ∷ l) (y ∷ put_number x l))) ≤ 1 + suc (length l)
+    step true c h = omega arith
+    step false true h = omega arith
+    step false false h = omega arith
+
+-- no more numbers rise than there are
+few_rise : (l : List ℕ) → length (rising l) ≤ length l
+unfolding rising
+few_rise [] = omega arith
+few_rise (x ∷ l) = let e = length-put x (rising l) in let f = few_rise l in omega arith
+
+-- there are no more keys than rows
+pub few_keys : (checked : Checked) (t : TableParts) (keys : List ℕ) → keys ≡ map (λ (p : ℕ × List ℕ). p.0) (key_pairs checked t) → IsTable t → length keys ≤ t.shape.rows
+few_keys checked t keys is table =
+    let kept = kept_rows checked t in
+    let numbers = map (joined_key checked t) kept in
+    let cell_at : ℕ → ℕ × List ℕ = λ n. (n, cell (adds_in t.shape.schema.columns) checked.spec (rows_at (joined_key checked t) kept n)) in
+    let a = length-map (key_pairs checked t) (λ (p : ℕ × List ℕ). p.0) in
+    let b = length-map (rising numbers) cell_at in
+    let c = few_rise numbers in
+    let d = length-map kept (joined_key checked t) in
+    let e = length-filter-le (is_kept checked.public) (rows_of t) in
+    let f : length (rows_of t) ≡ length t.rows = length-map (range_with_len 0 (length t.rows)) (row_in t) ∙ length-range_with_len 0 (length t.rows) in
+    let g = table.count in
+    let h = ap (λ l. length l) is in
+    omega arith
 
 -- the runs of the sorted rows' cells are the cells of the keys
 pub cells_of_keys : (checked : Checked) (t : TableParts) (w : ℕ) (rows : List KeyedRow) (keys cells : List ℕ) → IsTable t → All (IsKeyed checked t) rows → IsNonDecreasingBy (λ (k : KeyedRow). k.key) rows

@@ -1,20 +1,19 @@
 //! The cell of each key.
-ghost use Rattle.std.specs.Prelude.{◌≡◌, ◌*◌, ◌^◌, ◌<◌, All, length, map, IfOk};
+ghost use Rattle.std.specs.Prelude.{◌≡◌, ◌*◌, ◌^◌, ◌<◌, ◌≤◌, All, length, map, IfOk};
 ghost use Rattle.std.specs.List.{flat_map};
 ghost use Rattle.cell_merge.specs.Cells.{cell_width};
 ghost use Rattle.query_reader.specs.Accepted.{IsCheckedFor};
 ghost use Rattle.count_sum.specs.KeyCells.{key_pairs};
 
 use cell_merge::CellTable;
-use cell_runs::merge_runs;
-use keyed_rows::{cells_of, rows_by_key};
+use keyed_rows::{merged_cells, rows_by_key};
 use query_reader::{Checked, laws};
 use spl_values::Table;
 use std::alloc::{AllocError, Global};
 
 /// One entry for each joined key of the rows that the public conditions keep, over the columns of the query's
 /// branches, by rising key: the key, and the cell of all kept rows that have it. The lists are sized once, for as many
-/// cells as rows are kept.
+/// cells as there are joined keys.
 ///
 /// # Errors
 ///
@@ -26,12 +25,11 @@ pub fn key_cells(alloc: Global, checked: &Checked, table: &Table) -> Result<Cell
     ensures width { IfOk result (λ t. t.width ≡ cell_width checked.now.spec) }
     ensures bits { IfOk result (λ t. All (λ x. x < 2 ^ checked.now.bits) t.keys) }
     ensures whole { IfOk result (λ t. length t.cells ≡ length t.keys * t.width) }
+    ensures few { IfOk result (λ t. length t.keys ≤ table.now.shape.rows) }
 {
     laws::accepted_has_keys();
     // Reading the shape tells what the table keeps.
     let _ = table.shape();
     let rows = rows_by_key(alloc, checked, table)?;
-    let mut cells = cells_of(alloc, checked, table, &rows)?;
-    merge_runs(&checked.spec, &mut cells);
-    Ok(cells)
+    merged_cells(alloc, checked, table, &rows)
 }
