@@ -1,4 +1,4 @@
--- Keys that lie as the plan asks: where the first differs, and which round, trees and depths they are of.
+-- The first key that differs from its tree.
 use Rattle.std.proofs.Common.{◌≡◌, ◌<◌, ◌≤◌, ◌+◌, ℕ, zero, suc, Bool, true, false, cond, List, [], ◌∷◌, length, drop, Option, Some, None, refl, sym, ap, subst, ◌∙◌, arith, get_or, slice_get, length-drop}
 use Rattle.std.proofs.lemmas.List.{drop_more, drop_all, drop-drop}
 use Rattle.spl_words.specs.declared.secret.KeySpec.{KeySpec}

@@ -69,16 +69,8 @@ pub fn fold_level<T: Threads + Sync, E: Expander + Sync, G: Gate + Sync>(
         if depth(key) == level_depth {
             let place = tree * width;
             let out = &mut words[place..place + width];
-            fold_key(
-                rt,
-                gate,
-                folding,
-                folding.first_tree + tree as u32,
-                key,
-                cells,
-                lanes,
-                out,
-            );
+            let number = folding.first_tree + tree as u32;
+            fold_key(rt, gate, folding, number, key, cells, lanes, out);
         }
     }
 }
