@@ -67,7 +67,7 @@ module _ (n : ℕ) where
   slot_laid kind.Position range w (Some s) = ap (λ t. t ∷ tree Threshold n ∷ []) (count_tree s.lo)
 
   -- the trees of the secrets of slots are those of as many slots of the plan
-  slots_laid : (k : PlanKind) (range : Bool) (w from : ℕ) (l : List (Option Span)) → map secret_tree (flat_map (first_secrets k range n w) l) ≡ flat_map (λ i. slot_trees k range n w) (range_with_len from (length l))
+  pub slots_laid : (k : PlanKind) (range : Bool) (w from : ℕ) (l : List (Option Span)) → map secret_tree (flat_map (first_secrets k range n w) l) ≡ flat_map (λ i. slot_trees k range n w) (range_with_len from (length l))
   slots_laid k range w from [] = refl
   slots_laid k range w from (s ∷ l) = both_laid n (first_secrets k range n w s) (flat_map (first_secrets k range n w) l) _ _ (slot_laid k range w s) (slots_laid k range w (from + 1) l)
 

@@ -9,3 +9,5 @@ pub mod Spans
 pub mod CoverSecrets
 pub mod PointSecrets
 pub mod Telling
+pub mod PositionSlots
+pub mod SecondRounds

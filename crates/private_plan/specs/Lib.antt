@@ -3,3 +3,4 @@ pub mod Lengths
 pub mod Branches
 pub mod Slots
 pub mod Rounds
+pub mod Counts

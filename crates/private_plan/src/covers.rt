@@ -64,7 +64,7 @@ fn push_level(
 /// The ranges of a slot's cover by levels below `width`; an empty slot has none.
 fn cover_of(bits: u32, width: u32, slot: Option<Interval>) -> ArrayVec<Range, 36>
     requires some { 1 ≤ width }
-    requires narrow { width ≤ 16 }
+    requires narrow { width ≤ 18 }
     requires inside { width ≤ bits }
     requires slot { IfSome slot (IsSlot bits width) }
     ensures levels { (level : ℕ) → level < width → filter (λ r. r.level == level) result.items ≡ slot_level width slot level }
@@ -84,7 +84,7 @@ pub(crate) fn push_cover(
     slot: Option<Interval>,
 ) -> Result<(), AllocError>
     requires some { 1 ≤ width }
-    requires narrow { width ≤ 16 }
+    requires narrow { width ≤ 18 }
     requires inside { width ≤ bits }
     requires bits { bits ≤ 128 }
     requires slot { IfSome slot (IsSlot bits width) }

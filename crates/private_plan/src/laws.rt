@@ -1,8 +1,9 @@
 //! Laws of plans. Each function does nothing: its clauses are the laws.
-ghost use Rattle.std.specs.Prelude.{◌≡◌, ℕ, ◌-◌, ◌/◌, ◌^◌, ◌<◌, ◌≤◌, Bool, true, false, List, length, map, sum_by, if◌then◌else◌};
+ghost use Rattle.std.specs.Prelude.{◌≡◌, ℕ, ◌-◌, ◌/◌, ◌^◌, ◌<◌, ◌≤◌, Bool, true, false, nat_le, nat_lt, List, length, map, sum_by, if◌then◌else◌, Ok};
 ghost use Rattle.std.specs.List.{AllByRecursion, AllZip};
 ghost use Rattle.spl_words.specs.Secrets.{secret_tree, secret_value, secrets_value};
 ghost use Rattle.spl_values.specs.Shapes.{ColumnParts, IsSchema, SchemaParts, ShapeParts};
+ghost use Rattle.interval_keys.specs.Intervals.{slot_value, threshold};
 ghost use Rattle.interval_keys.specs.Slots.{EachSpan, IsSpan, allowed, held};
 ghost use Rattle.cell_merge.specs.Rows.{Row};
 ghost use Rattle.query_grammar.specs.Canonical.{IsQuery};
@@ -12,9 +13,10 @@ ghost use Rattle.query_reader.specs.Matching.{branch_holds, some_branch_holds};
 ghost use Rattle.query_reader.specs.Params.{AreParamsFor, HasBits, branch_columns, times};
 ghost use Rattle.private_plan.specs.Branches.{RowHasBits, row_key, branch_span, branch_spans, span_holds};
 ghost use Rattle.private_plan.specs.declared.plans.PlanKind.TheVariants as kind;
-ghost use Rattle.private_plan.specs.Plans.{brings_cells, last_bits, plan_of};
-ghost use Rattle.private_plan.specs.Slots.{IsPointOf, slots_of};
-ghost use Rattle.private_plan.specs.Rounds.{first_depth, first_round, secrets_in};
+ghost use Rattle.private_plan.specs.Plans.{brings_cells, last_bits, plan_of, position_bits};
+ghost use Rattle.private_plan.specs.Slots.{IsPointOf, count_below, position_slots, slots_of};
+ghost use Rattle.private_plan.specs.Counts.{counts_taken};
+ghost use Rattle.private_plan.specs.Rounds.{first_depth, first_round, second_secrets, secrets_in};
 
 /// The interval of a branch holds a row's joined key exactly where the branch holds of the row, and
 /// the intervals of several branches where one of these does, for codes that have no more bits than
@@ -42,10 +44,13 @@ pub fn slots_stay_in_one_value()
         → EachSpan (λ s. s.lo ≡ s.hi) (slots_of checked schema.columns params) }
 {}
 
-/// The trees of a first round's secrets are those that its plan asks for, in the same order.
+/// The trees of a round's secrets are those that its plan asks for, in the same order; in a second round for as many counts
+/// as the first one brings.
 pub fn secrets_lie_as_planned()
-    ensures { (checked : Checked) (shape : ShapeParts) (params : List ℕ) → IsCheckedFor checked shape.schema → IsQuery checked.query → AreParamsFor checked shape.schema params
+    ensures first { (checked : Checked) (shape : ShapeParts) (params : List ℕ) → IsCheckedFor checked shape.schema → IsQuery checked.query → AreParamsFor checked shape.schema params
         → map secret_tree (secrets_in checked shape params first_round) ≡ (plan_of checked shape).first }
+    ensures second { (checked : Checked) (shape : ShapeParts) (params counts : List ℕ) → (plan_of checked shape).kind ≡ kind.Position → length counts ≡ (plan_of checked shape).first_words
+        → map secret_tree (secrets_in checked shape params (record { number = 2; counts = counts })) ≡ (plan_of checked shape).second }
 {}
 
 /// The functions of a sum's secrets add, at a row's joined key, to 1 where some branch holds of the
@@ -71,4 +76,19 @@ pub fn points_tell_matching_rows()
     ensures tell { (checked : Checked) (shape : ShapeParts) (params : List ℕ) (r : Row) → IsSchema shape.schema → IsCheckedFor checked shape.schema → IsQuery checked.query → AreParamsFor checked shape.schema params → RowHasBits shape.schema.columns checked.columns r
         → brings_cells (plan_of checked shape).kind ≡ true
         → sum_by (λ s. secret_value s (row_key shape.schema.columns checked.columns r / 2 ^ (checked.bits - s.depth))) (secrets_in checked shape params first_round) ≡ (if some_branch_holds checked.branches checked.columns checked.range params r then 1 else 0) }
+{}
+
+/// In the first round of a plan of two the two thresholds of a slot count what is below it, and what is below or in it: of a
+/// row's joined key the first says 1 where it is below the slot's lower end, the second where it isn't above the upper one.
+pub fn thresholds_count_rows()
+    ensures below { (bits lo x : ℕ) → secret_value (count_below bits lo) x ≡ (if nat_lt x lo then 1 else 0) }
+    ensures upto { (bits hi x : ℕ) → secret_value (threshold bits hi 1) x ≡ (if nat_le x hi then 1 else 0) }
+{}
+
+/// In a second round over counts that can be, the secrets are points over positions, and what they say of a position without
+/// so many of its lowest bits as each tree has less than the first adds to the number of slots that hold it.
+pub fn points_tell_positions()
+    ensures points { (rows : ℕ) (counts : List ℕ) → rows ≤ 262144 → counts_taken rows 0 counts ≡ Ok tt → AllByRecursion (IsPointOf (position_bits rows)) (second_secrets rows counts) }
+    ensures tell { (rows position : ℕ) (counts : List ℕ) → rows ≤ 262144 → counts_taken rows 0 counts ≡ Ok tt
+        → sum_by (λ s. secret_value s (position / 2 ^ (position_bits rows - s.depth))) (second_secrets rows counts) ≡ sum_by (λ slot. slot_value slot position) (position_slots counts) }
 {}

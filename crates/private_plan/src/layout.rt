@@ -103,7 +103,7 @@ fn push_first(trees: &mut Vec<KeySpec>, sizes: &Sizes) -> Result<(), AllocError>
 }
 
 /// The least number of bits, at least 1, that tell so many rows apart.
-fn position_bits(rows: u32) -> u32
+pub(crate) fn position_bits(rows: u32) -> u32
     requires { rows ≤ 262144 }
     ensures { result ≡ bits_of_positions rows }
 {

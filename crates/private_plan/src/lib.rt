@@ -8,6 +8,7 @@ pub mod laws;
 mod layout;
 mod lengths;
 mod plans;
+mod positions;
 mod secrets;
 mod slot_secrets;
 

@@ -1,15 +1,18 @@
 //! The secrets of a round's trees.
-ghost use Rattle.std.specs.Prelude.{◌≡◌, [], IfOk, IfErr};
+ghost use Rattle.std.specs.Prelude.{◌≡◌, ◌≤◌, [], length, Ok, Err, IfOk};
+ghost use Rattle.spl_words.specs.Results.{Gives};
 ghost use Rattle.query_reader.specs.Accepted.{IsCheckedFor};
 ghost use Rattle.query_reader.specs.Params.{AreParamsFor};
 ghost use Rattle.private_plan.specs.declared.secrets.SecretFault.TheVariants as fault;
 ghost use Rattle.private_plan.specs.Plans.{plan_of};
-ghost use Rattle.private_plan.specs.Rounds.{first_round, secrets_in};
+ghost use Rattle.private_plan.specs.Counts.{counts_taken, secrets_of};
+ghost use Rattle.private_plan.specs.Rounds.{first_round, second_secrets as secrets_of_second, secrets_in};
 
 use crate::branches::slots;
-use crate::layout::sizes_of;
+use crate::layout::{position_bits, sizes_of};
 use crate::plans::Plan;
-use crate::slot_secrets::slots_secrets;
+use crate::positions::check_counts;
+use crate::slot_secrets::{positions_secrets, slots_secrets};
 use query_reader::{Checked, Params};
 use spl_values::Shape;
 use spl_words::TreeSecret;
@@ -64,31 +67,82 @@ impl From<AllocError> for SecretFault {
     }
 }
 
-/// The secrets of a plan's first round.
+/// The secrets of the trees of a first round.
+fn first_secrets(
+    alloc: Global,
+    checked: &Checked,
+    shape: &Shape,
+    params: &Params,
+) -> Result<Vec<TreeSecret>, AllocError>
+    requires accepted { IsCheckedFor checked.now shape.now.schema }
+    requires params { AreParamsFor checked.now shape.now.schema params.now }
+    ensures { IfOk result (λ secrets. secrets.items ≡ secrets_in checked.now shape.now params.now first_round) }
+{
+    checked.query.facts();
+    let sizes = sizes_of(checked, shape);
+    let slots = slots(checked, &shape.schema, params);
+    slots_secrets(alloc, &sizes, slots.as_slice())
+}
+
+/// The secrets of the trees of a second round, from counts that can be.
+fn second_secrets(alloc: Global, rows: u32, counts: &[u64]) -> Result<Vec<TreeSecret>, AllocError>
+    requires rows { rows ≤ 262144 }
+    requires taken { counts_taken rows 0 counts.now ≡ Ok tt }
+    ensures { IfOk result (λ secrets. secrets.items ≡ secrets_of_second rows counts.now) }
+{
+    positions_secrets(alloc, position_bits(rows), counts)
+}
+
+/// The secrets of the trees of a round, from counts that can be.
+fn taken_secrets(
+    alloc: Global,
+    checked: &Checked,
+    shape: &Shape,
+    params: &Params,
+    round: u32,
+    counts: &[u64],
+) -> Result<Vec<TreeSecret>, AllocError>
+    requires accepted { IsCheckedFor checked.now shape.now.schema }
+    requires params { AreParamsFor checked.now shape.now.schema params.now }
+    requires taken { counts_taken shape.now.rows 0 counts.now ≡ Ok tt }
+    ensures { IfOk result (λ secrets. secrets.items ≡ secrets_in checked.now shape.now params.now (record { number = round; counts = counts.now })) }
+{
+    if round == 2 {
+        second_secrets(alloc, shape.rows, counts)
+    } else {
+        first_secrets(alloc, checked, shape, params)
+    }
+}
+
+/// The secrets of the trees of a plan's round. `counts` are the words that both answers to the first round add up to, for
+/// the second one, and none for the first.
 ///
 /// # Errors
 ///
-/// Only for want of memory.
+/// `BadCount` with the first count that is above the shape's rows, or that is the second of a slot and below the first: its
+/// place, the count, and the rows or the first. Or want of memory.
+#[tactic(auto, unfolding(crate::specs::Counts::secrets_of))]
 pub fn round_secrets(
     alloc: Global,
     _plan: &Plan,
     checked: &Checked,
     shape: &Shape,
     params: &Params,
-    _round: u32,
-    _counts: &[u64],
+    round: u32,
+    counts: &[u64],
 ) -> Result<Secrets, SecretFault>
     requires accepted { IsCheckedFor checked.now shape.now.schema }
     requires params { AreParamsFor checked.now shape.now.schema params.now }
     requires plan { _plan.now ≡ plan_of checked.now shape.now }
-    requires round { _round ≡ 1 }
-    requires counts { _counts.now ≡ [] }
-    ensures ok { IfOk result (λ secrets. secrets ≡ secrets_in checked.now shape.now params.now first_round) }
-    ensures err { IfErr result (λ e. e ≡ fault.OutOfMemory) }
+    requires round { (1 ≤ round) × (round ≤ _plan.now.rounds) }
+    requires none { round ≡ 1 → counts.now ≡ [] }
+    requires told { round ≡ 2 → length counts.now ≡ _plan.now.first_words }
+    ensures gives { Gives fault.OutOfMemory (λ secrets. secrets) result (secrets_of checked.now shape.now params.now (record { number = round; counts = counts.now })) }
+    // A count that can't be is told however little memory there is.
+    ensures refusals { (e : SecretFault) → secrets_of checked.now shape.now params.now (record { number = round; counts = counts.now }) ≡ Err e → result ≡ Err e }
+    ensures first { round ≡ 1 → IfOk result (λ secrets. secrets ≡ secrets_in checked.now shape.now params.now first_round) }
 {
-    checked.query.facts();
-    let sizes = sizes_of(checked, shape);
-    let slots = slots(checked, &shape.schema, params);
-    let secrets = slots_secrets(alloc, &sizes, slots.as_slice())?;
+    check_counts(shape.rows, counts)?;
+    let secrets = taken_secrets(alloc, checked, shape, params, round, counts)?;
     Ok(Secrets::from_vec(secrets))
 }

@@ -1,13 +1,14 @@
-//! The secrets of slots in a first round.
+//! The secrets of slots: of joined keys in a first round, of positions in a second one.
 ghost use Rattle.std.specs.Prelude.{◌≡◌, ◌≤◌, ◌<◌, ◌^◌, ◌++◌, All, IfOk, IfSome, ◌∷◌, []};
-ghost use Rattle.std.specs.List.{flat_map};
+ghost use Rattle.std.specs.List.{AllByRecursion, flat_map};
 ghost use Rattle.private_plan.specs.declared.plans.PlanKind.TheVariants as kind;
-ghost use Rattle.private_plan.specs.Slots.{IsSlot, count_below as secret_below, count_secrets as secrets_of_counts, point_secret as secret_of_point};
+ghost use Rattle.private_plan.specs.Slots.{IsSlot, count_below as secret_below, count_secrets as secrets_of_counts, cover_secrets, point_secret as secret_of_point, position_slots};
 ghost use Rattle.private_plan.specs.Rounds.{first_secrets};
 
 use crate::covers::push_cover;
 use crate::layout::Sizes;
 use crate::plans::PlanKind;
+use crate::positions::position_slot;
 use interval_keys::{Interval, interval_secrets};
 use spl_words::{TreeKind, TreeSecret};
 use std::alloc::{AllocError, Global};
@@ -116,6 +117,24 @@ pub(crate) fn slots_secrets(
     let mut secrets = Vec::new(alloc);
     for slot in slots {
         push_secrets(&mut secrets, sizes, *slot)?;
+    }
+    Ok(secrets)
+}
+
+/// The secrets of the slots of positions that counts tell, slot by slot.
+pub(crate) fn positions_secrets(
+    alloc: Global,
+    bits: u32,
+    counts: &[u64],
+) -> Result<Vec<TreeSecret>, AllocError>
+    requires some { 1 ≤ bits }
+    requires most { bits ≤ 18 }
+    requires slots { AllByRecursion (λ slot. IfSome slot (IsSlot bits bits)) (position_slots counts.now) }
+    ensures { IfOk result (λ secrets. secrets.items ≡ flat_map (cover_secrets bits bits) (position_slots counts.now)) }
+{
+    let mut secrets = Vec::new(alloc);
+    for pair in counts.chunks_exact(2) {
+        push_cover(&mut secrets, bits, bits, position_slot(pair[0], pair[1]))?;
     }
     Ok(secrets)
 }

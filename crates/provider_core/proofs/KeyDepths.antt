@@ -1,14 +1,15 @@
--- Keys that lie as the plan asks: where the first differs, and which round, trees and depths they are of.
-use Rattle.std.proofs.Common.{◌≡◌, ◌<◌, ◌≤◌, ◌+◌, ◌-◌, ◌*◌, ◌⊎◌, inl, inr, ℕ, zero, suc, Bool, true, false, cond, List, [], ◌∷◌, ◌++◌, length, map, replicate, drop, Option, Some, None, Result, Ok, refl, sym, ap, ap₂, subst, ◌∙◌, arith, get_or, slice_get, eqb, length-drop}
+-- Keys that lie as a plan asks: of which trees they are, how deep these are, and how many words answer them.
+use Rattle.std.proofs.Common.{◌≡◌, ◌<◌, ◌≤◌, ◌-◌, ◌*◌, ◌+◌, ℕ, zero, suc, Bool, true, false, cond, List, [], ◌∷◌, ◌++◌, length, map, replicate, Option, Some, None, Result, Ok, Err, refl, sym, ap, ap₂, subst, ◌∙◌, arith, eqb}
 use Rattle.std.specs.List.{AllByRecursion, flat_map, range_with_len}
 use Rattle.std.proofs.lemmas.Bool.{and_parts, eqb-true, eqb-false}
-use Rattle.std.proofs.lemmas.List.{drop_more, drop_all, drop-drop, length-map}
+use Rattle.std.proofs.lemmas.List.{length-map}
 use Rattle.std.proofs.Math.Nat.{mul-le-mul_right}
 use Rattle.spl_words.specs.Results.{◌>>=◌}
 use Rattle.spl_words.specs.declared.secret.KeySpec.{KeySpec}
 use Rattle.spl_words.specs.declared.secret.TreeKind.{TreeKind}
 use Rattle.spl_words.specs.declared.secret.TreeKind.TheVariants as tree_kind
 use Rattle.spl_values.specs.Tables.{TableParts}
+use Rattle.cell_merge.specs.Cells.{cell_width}
 use Rattle.key_frames.specs.declared.frame.KeyFrame.{KeyFrame}
 use Rattle.key_frames.specs.declared.keys.Key.{Key}
 use Rattle.key_frames.specs.declared.keys.Key.TheVariants.{Point, Threshold}
@@ -18,72 +19,16 @@ use Rattle.key_frames.specs.Trees.{key_tree}
 use Rattle.query_reader.specs.declared.checked.Checked.{Checked}
 use Rattle.private_plan.specs.declared.plans.PlanKind.{PlanKind}
 use Rattle.private_plan.specs.declared.plans.PlanKind.TheVariants as kind
-use Rattle.private_plan.specs.Plans.{brings_cells, is_built, kind_of, last_bits, level_trees, plan_of, second_trees, slot_trees, tree, words_back}
+use Rattle.private_plan.specs.Plans.{is_built, kind_of, last_bits, level_trees, plan_of, position_bits, second_trees, slot_trees, tree, words_back}
 use Rattle.private_plan.specs.Lengths.{trees_in}
-use Rattle.private_plan.specs.Rounds.{first_depth}
+use Rattle.private_plan.specs.Rounds.{first_depth, first_tree}
+use Rattle.private_plan.proofs.Counts.{slot_few, slots_few}
 use Rattle.private_plan.proofs.FirstTrees.{each-append}
 use Rattle.provider_core.specs.declared.fault.ProviderFault.{ProviderFault}
-use Rattle.provider_core.specs.Asking.{if_built, if_placed, keys_placed}
-use Rattle.provider_core.specs.Layouts.{has_kind, is_key_of, layout_differs, IsPlaced}
-
--- ---- the first key that differs
-
-first_off : (i : ℕ) (ts : List KeySpec) (k : Key) (ks : List Key) → (IsPlaced (slice_get ts 0) k → ⊥) → layout_differs i ts (k ∷ ks) ≡ Some i
-unfolding layout_differs
-first_off i [] k ks never = refl
-first_off i (t ∷ ts) k ks never = chosen (is_key_of t k) refl where
-  chosen : (b : Bool) → is_key_of t k ≡ b → cond b (layout_differs (i + 1) ts ks) (Some i) ≡ Some i
-  chosen false e = refl
-  chosen true e = absurd (never e)
-
-first_on : (i : ℕ) (ts : List KeySpec) (k : Key) (ks : List Key) → IsPlaced (slice_get ts 0) k → layout_differs i ts (k ∷ ks) ≡ layout_differs (i + 1) (drop 1 ts) ks
-unfolding layout_differs
-first_on i [] k ks is = absurd is
-first_on i (t ∷ ts) k ks is = ap (λ b. cond b (layout_differs (i + 1) ts ks) (Some i)) is
-
-get-drop : {A : Type 0} (xs : List A) (n : ℕ) → slice_get (drop n xs) 0 ≡ slice_get xs n
-get-drop [] zero = refl
-get-drop [] (suc n) = refl
-get-drop (x ∷ xs) zero = refl
-get-drop (x ∷ xs) (suc n) = get-drop xs n
-
--- what is left to compare, from a place on
-abbrev pub left_differs : List KeySpec → List Key → ℕ → Option ℕ
-left_differs trees keys i = layout_differs i (drop i trees) (drop i keys)
-
-keys_left : (keys : List Key) (i : ℕ) (k : Key) → i < length keys → k ≡ get_or keys i k → drop i keys ≡ k ∷ drop (i + 1) keys
-keys_left keys i k h is = drop_more keys i k h ∙ ap (λ x. x ∷ drop (i + 1) keys) (sym is)
-
-pub differs_here : (trees : List KeySpec) (keys : List Key) (i : ℕ) (k : Key) → i < length keys → k ≡ get_or keys i k → (IsPlaced (slice_get trees i) k → ⊥) → left_differs trees keys i ≡ Some i
-differs_here trees keys i k h is never =
-    ap (layout_differs i (drop i trees)) (keys_left keys i k h is)
-    ∙ first_off i (drop i trees) k (drop (i + 1) keys) (λ placed. never (subst (λ o. IsPlaced o k) (get-drop trees i) placed))
-
-pub same_here : (trees : List KeySpec) (keys : List Key) (i : ℕ) (k : Key) → i < length keys → k ≡ get_or keys i k → IsPlaced (slice_get trees i) k → left_differs trees keys i ≡ left_differs trees keys (i + 1)
-same_here trees keys i k h is placed =
-    ap (layout_differs i (drop i trees)) (keys_left keys i k h is)
-    ∙ first_on i (drop i trees) k (drop (i + 1) keys) (subst (λ o. IsPlaced o k) (sym (get-drop trees i)) placed)
-    ∙ ap (λ ts. layout_differs (i + 1) ts (drop (i + 1) keys)) (drop-drop 1 i trees)
-
-no_keys : (i : ℕ) (ts : List KeySpec) → 0 < length ts → layout_differs i ts [] ≡ Some i
-unfolding layout_differs
-no_keys i [] h = absurd (omega arith)
-no_keys i (t ∷ ts) h = refl
-
-nothing : (i : ℕ) (ts : List KeySpec) → ts ≡ [] → layout_differs i ts [] ≡ None
-unfolding layout_differs
-nothing i ts e = ap (λ ts. layout_differs i ts []) e
-
--- a key is missing
-pub one_missing : (trees : List KeySpec) (keys : List Key) (i : ℕ) → i ≡ length keys → i < length trees → left_differs trees keys i ≡ Some i
-one_missing trees keys i end more =
-    let long = length-drop i trees in
-    ap (layout_differs i (drop i trees)) (drop_all i keys (omega (arith, end))) ∙ no_keys i (drop i trees) (omega (arith, long, more))
-
--- no key is missing, and none is left
-pub none_differs : (trees : List KeySpec) (keys : List Key) (i : ℕ) → i ≡ length keys → length trees ≤ i → left_differs trees keys i ≡ None
-none_differs trees keys i end less =
-    ap (layout_differs i (drop i trees)) (drop_all i keys (omega (arith, end))) ∙ nothing i (drop i trees) (drop_all i trees less)
+use Rattle.provider_core.specs.declared.fault.ProviderFault.TheVariants.{NotBuilt}
+use Rattle.provider_core.specs.Asking.{if_placed, keys_placed}
+use Rattle.provider_core.specs.Cells.{first_bits, first_levels, words_in}
+use Rattle.provider_core.specs.Layouts.{has_kind, is_key_of, layout_differs}
 
 -- ---- the trees of the keys
 
@@ -130,124 +75,92 @@ begins_again n ts [] h some = absurd (omega (arith, some))
 begins_again n [] (s ∷ ss) h some = begins_again n [] ss h some
 begins_again n (t ∷ ts) (s ∷ ss) h some = h (omega arith)
 
-module _ (n w : ℕ) where
-  levels_within : (js : List ℕ) → AllByRecursion (λ (t : KeySpec). t.depth ≤ n) (flat_map (λ j. replicate 2 (tree tree_kind.Point (n - j))) js)
-  levels_within [] = tt
-  levels_within (j ∷ js) = (omega arith, (omega arith, levels_within js))
-
-  slot_within : (k : PlanKind) (range : Bool) → AllByRecursion (λ (t : KeySpec). t.depth ≤ n) (slot_trees k range n w)
-  slot_within kind.Sum false = (omega arith, tt)
-  slot_within kind.Sum true = (omega arith, (omega arith, tt))
-  slot_within kind.Point range = (omega arith, tt)
-  slot_within kind.Aligned range = levels_within (range_with_len 0 w)
-  slot_within kind.Position range = (omega arith, (omega arith, tt))
-
-  sum_exact : (range : Bool) → AllByRecursion (λ (t : KeySpec). t.depth ≡ n) (slot_trees kind.Sum range n w)
-  sum_exact false = (refl, tt)
-  sum_exact true = (refl, (refl, tt))
+levels_within : (n : ℕ) (js : List ℕ) → AllByRecursion (λ (t : KeySpec). t.depth ≤ n) (flat_map (λ j. replicate 2 (tree tree_kind.Point (n - j))) js)
+levels_within n [] = tt
+levels_within n (j ∷ js) = (omega arith, (omega arith, levels_within n js))
 
 levels_begin : (n w : ℕ) → Begins n (level_trees n w)
 levels_begin n zero some = absurd (omega (arith, some))
 levels_begin n (suc w) some = omega arith
 
-slot_begins : (n w : ℕ) (k : PlanKind) (range : Bool) → Begins n (slot_trees k range n w)
-slot_begins n w kind.Sum false some = refl
-slot_begins n w kind.Sum true some = refl
-slot_begins n w kind.Point range some = refl
-slot_begins n w kind.Aligned range some = levels_begin n w some
-slot_begins n w kind.Position range some = refl
-
-second_none : (k : PlanKind) (rows : ℕ) → is_built k ≡ true → second_trees k rows ≡ []
-second_none kind.Sum rows built = refl
-second_none kind.Point rows built = refl
-second_none kind.Aligned rows built = refl
-second_none kind.Position rows built = absurd cc
-
 none_each : (trees : List KeySpec) (slots : List ℕ) → trees ≡ [] → flat_map (λ i. trees) slots ≡ []
 none_each trees [] none = refl
 none_each trees (s ∷ ss) none = ap₂ (λ a b. a ++ b) none (none_each trees ss none)
 
--- ---- the keys of a frame that is answered
+module _ (n w rows : ℕ) (range : Bool) (slots : List ℕ) where
+  -- the trees of a round, which is the second or the first
+  abbrev trees_of : PlanKind → Bool → List KeySpec
+  trees_of k second = cond second (flat_map (λ i. second_trees k rows) slots) (flat_map (λ i. slot_trees k range n w) slots)
 
-built_parts : (k : PlanKind) (next : Result (Unit {0}) ProviderFault) → (if_built k >>= (λ built. next)) ≡ Ok tt → (is_built k ≡ true) × (next ≡ Ok tt)
-built_parts kind.Sum next h = (refl, h)
-built_parts kind.Point next h = (refl, h)
-built_parts kind.Aligned next h = (refl, h)
-built_parts kind.Position next h = absurd cc
+  -- the levels of its first tree
+  abbrev bits_of : PlanKind → Bool → ℕ
+  bits_of kind.Sum second = n
+  bits_of kind.Point second = n
+  bits_of kind.Aligned second = n
+  bits_of kind.Position second = cond second (position_bits rows) n
 
-placed_none : (o : Option ℕ) → if_placed o ≡ Ok tt → o ≡ None
-placed_none None h = refl
-placed_none (Some i) h = absurd cc
+  slot_within : (k : PlanKind) (range : Bool) → AllByRecursion (λ (t : KeySpec). t.depth ≤ n) (slot_trees k range n w)
+  slot_within kind.Sum false = (omega arith, tt)
+  slot_within kind.Sum true = (omega arith, (omega arith, tt))
+  slot_within kind.Point range = (omega arith, tt)
+  slot_within kind.Aligned range = levels_within n (range_with_len 0 w)
+  slot_within kind.Position range = (omega arith, (omega arith, tt))
 
--- a plan that is answered, and the keys of the trees of its first round
-pub record AreFirst (table : TableParts) (checked : Checked) (frame : KeyFrame) : Type 0 where
-  pub built : is_built (kind_of checked table.shape.schema.columns) ≡ true
-  pub round : frame.round ≡ 1
-  pub trees : (plan_of checked table.shape).first ≡ map key_tree frame.keys
+  -- no tree is deeper
+  within : (k : PlanKind) (second : Bool) → AllByRecursion (λ (t : KeySpec). t.depth ≤ bits_of k second) (trees_of k second)
+  within kind.Sum true = each_slot (λ t. t.depth ≤ n) [] slots tt
+  within kind.Point true = each_slot (λ t. t.depth ≤ n) [] slots tt
+  within kind.Aligned true = each_slot (λ t. t.depth ≤ n) [] slots tt
+  within kind.Position true = let q = position_bits rows in each_slot (λ t. t.depth ≤ q) (level_trees q q) slots (levels_within q (range_with_len 0 q))
+  within kind.Sum false = each_slot (λ t. t.depth ≤ n) (slot_trees kind.Sum range n w) slots (slot_within kind.Sum range)
+  within kind.Point false = each_slot (λ t. t.depth ≤ n) (slot_trees kind.Point range n w) slots (slot_within kind.Point range)
+  within kind.Aligned false = each_slot (λ t. t.depth ≤ n) (slot_trees kind.Aligned range n w) slots (slot_within kind.Aligned range)
+  within kind.Position false = each_slot (λ t. t.depth ≤ n) (slot_trees kind.Position range n w) slots (slot_within kind.Position range)
 
-module _ (table : TableParts) (checked : Checked) (frame : KeyFrame) where
-  -- the keys of a plan that is answered are those of its first round
-  pub placed_first : keys_placed table frame checked ≡ Ok tt → FrameAllowed frame → AreFirst table checked frame
-  unfolding keys_placed
-  placed_first h allowed =
-      let plan = plan_of checked table.shape in
-      let parts = built_parts (kind_of checked table.shape.schema.columns) (if_placed (layout_differs 0 (trees_in plan frame.round) frame.keys)) h in
-      let trees = layout_trees 0 (trees_in plan frame.round) frame.keys (placed_none _ parts.1) in
-      by_round (eqb frame.round 2) refl parts.0 trees where
-        by_round : (b : Bool) → eqb frame.round 2 ≡ b → is_built (kind_of checked table.shape.schema.columns) ≡ true
-            → cond b (plan_of checked table.shape).second (plan_of checked table.shape).first ≡ map key_tree frame.keys → AreFirst table checked frame
-        by_round true is built trees =
-            let none = ap (λ (ts : List KeySpec). length ts) (sym trees ∙ none_each _ (range_with_len 0 checked.branches) (second_none (kind_of checked table.shape.schema.columns) table.shape.rows built)) in
-            absurd (omega (arith, none, length-map frame.keys key_tree, allowed.count.0))
-        by_round false is built trees = record { built = built; round = (let other = eqb-false frame.round 2 is in omega (arith, other, allowed.round.0, allowed.round.1)); trees = trees }
+  slot_begins : (k : PlanKind) (range : Bool) → Begins n (slot_trees k range n w)
+  slot_begins kind.Sum false some = refl
+  slot_begins kind.Sum true some = refl
+  slot_begins kind.Point range some = refl
+  slot_begins kind.Aligned range some = levels_begin n w some
+  slot_begins kind.Position range some = refl
 
-  module _ (are : AreFirst table checked frame) where
-    abbrev columns_bits : ℕ
-    columns_bits = last_bits table.shape.schema.columns checked.columns
+  begins : (k : PlanKind) (second : Bool) → Begins (bits_of k second) (trees_of k second)
+  begins kind.Sum true = begins_again n [] slots (λ some. absurd (omega (arith, some)))
+  begins kind.Point true = begins_again n [] slots (λ some. absurd (omega (arith, some)))
+  begins kind.Aligned true = begins_again n [] slots (λ some. absurd (omega (arith, some)))
+  begins kind.Position true = let q = position_bits rows in begins_again q (level_trees q q) slots (levels_begin q q)
+  begins kind.Sum false = begins_again n (slot_trees kind.Sum range n w) slots (slot_begins kind.Sum range)
+  begins kind.Point false = begins_again n (slot_trees kind.Point range n w) slots (slot_begins kind.Point range)
+  begins kind.Aligned false = begins_again n (slot_trees kind.Aligned range n w) slots (slot_begins kind.Aligned range)
+  begins kind.Position false = begins_again n (slot_trees kind.Position range n w) slots (slot_begins kind.Position range)
 
-    pub first_count : length frame.keys ≡ length (plan_of checked table.shape).first
-    first_count = sym (length-map frame.keys key_tree) ∙ ap (λ (ts : List KeySpec). length ts) (sym are.trees)
+  -- the trees of a first round are all as deep, but for an aligned cover
+  exact : (k : PlanKind) → (k ≡ kind.Aligned → ⊥) → AllByRecursion (λ (t : KeySpec). t.depth ≡ n) (trees_of k false)
+  exact kind.Sum other = each_slot (λ t. t.depth ≡ n) (slot_trees kind.Sum range n w) slots (sums range)
+    where
+      sums : (range : Bool) → AllByRecursion (λ (t : KeySpec). t.depth ≡ n) (slot_trees kind.Sum range n w)
+      sums false = (refl, tt)
+      sums true = (refl, (refl, tt))
+  exact kind.Point other = each_slot (λ t. t.depth ≡ n) (slot_trees kind.Point range n w) slots (refl, tt)
+  exact kind.Aligned other = absurd (other refl)
+  exact kind.Position other = each_slot (λ t. t.depth ≡ n) (slot_trees kind.Position range n w) slots (refl, (refl, tt))
 
-    -- no key has more levels than the joined key has bits
-    pub depths_within : AllByRecursion (λ (k : Key). depth k ≤ checked.bits) frame.keys
-    depths_within =
-        let P : KeySpec → Type 0 = λ t. t.depth ≤ checked.bits in
-        let slot = slot_within checked.bits columns_bits (kind_of checked table.shape.schema.columns) checked.range in
-        each_key P frame.keys (subst (AllByRecursion P) are.trees (each_slot P _ (range_with_len 0 checked.branches) slot))
+  -- only counts have a second round with trees
+  counts_second : (k : PlanKind) → 0 < length (trees_of k true) → k ≡ kind.Position
+  counts_second kind.Sum some = (let none = ap (λ (ts : List KeySpec). length ts) (none_each [] slots refl) in absurd (omega (arith, some, none)))
+  counts_second kind.Point some = (let none = ap (λ (ts : List KeySpec). length ts) (none_each [] slots refl) in absurd (omega (arith, some, none)))
+  counts_second kind.Aligned some = (let none = ap (λ (ts : List KeySpec). length ts) (none_each [] slots refl) in absurd (omega (arith, some, none)))
+  counts_second kind.Position some = refl
 
-    -- nor fewer, for a sum
-    pub depths_exact : kind_of checked table.shape.schema.columns ≡ kind.Sum → AllByRecursion (λ (k : Key). depth k ≡ checked.bits) frame.keys
-    depths_exact sums =
-        let P : KeySpec → Type 0 = λ t. t.depth ≡ checked.bits in
-        let slot : AllByRecursion P (slot_trees (kind_of checked table.shape.schema.columns) checked.range checked.bits columns_bits) = rw sums (sum_exact checked.bits columns_bits checked.range) in
-        each_key P frame.keys (subst (AllByRecursion P) are.trees (each_slot P _ (range_with_len 0 checked.branches) slot))
+-- ---- how many words
 
-    -- the first tree has as many levels as the joined key has bits
-    pub first_begins : 0 < length frame.keys → first_depth (plan_of checked table.shape).first ≡ checked.bits
-    first_begins some =
-        let slot = slot_begins checked.bits columns_bits (kind_of checked table.shape.schema.columns) checked.range in
-        begins_again checked.bits _ (range_with_len 0 checked.branches) slot (omega (arith, some, first_count))
+-- so many trees bring so many words, in a second round or the first
+abbrev pub words_of : Bool → PlanKind → ℕ → ℕ → ℕ
+words_of second k trees width = cond second (trees * width) (words_back k trees width)
 
--- ---- cells for keys
-
--- a plan that is answered and isn't one of sums has a cell for each key
-pub brings_of : (k : PlanKind) → is_built k ≡ true → (k ≡ kind.Point) ⊎ ((k ≡ kind.Aligned) ⊎ (k ≡ kind.Position)) → brings_cells k ≡ true
-brings_of kind.Sum built (inl is) = absurd cc
-brings_of kind.Sum built (inr (inl is)) = absurd cc
-brings_of kind.Sum built (inr (inr is)) = absurd cc
-brings_of kind.Point built other = refl
-brings_of kind.Aligned built other = refl
-brings_of kind.Position built other = absurd cc
-
--- whose words are those of so many cells
-pub words_for : (k : PlanKind) (trees width : ℕ) → brings_cells k ≡ true → words_back k trees width ≡ trees * width
-words_for kind.Sum trees width brings = absurd cc
-words_for kind.Point trees width brings = refl
-words_for kind.Aligned trees width brings = refl
-words_for kind.Position trees width brings = absurd cc
-
-pub words_for_sum : (k : PlanKind) (trees width : ℕ) → k ≡ kind.Sum → words_back k trees width ≡ width
-words_for_sum k trees width is = ap (λ (x : PlanKind). words_back x trees width) is
+words_same : (second : Bool) (k : PlanKind) (A B : List KeySpec) (n width : ℕ) → length (cond second A B) ≡ n → cond second (length A * width) (words_back k (length B) width) ≡ words_of second k n width
+words_same true k A B n width same = ap (λ m. m * width) same
+words_same false k A B n width same = ap (λ m. words_back k m width) same
 
 cells_fit : (trees width : ℕ) → (1 ≤ trees) × (trees ≤ 512) → (1 ≤ width) × (width ≤ 128) → (1 ≤ trees * width) × (trees * width ≤ 65536)
 cells_fit trees width t w =
@@ -255,9 +168,101 @@ cells_fit trees width t w =
     let most : trees * width ≤ 512 * width = mul-le-mul_right width t.1 in
     (omega (arith, least, w.0), omega (arith, most, w.1))
 
--- an answer has 1 to 2^16 words
-pub words_fit : (k : PlanKind) (trees width : ℕ) → is_built k ≡ true → (1 ≤ trees) × (trees ≤ 512) → (1 ≤ width) × (width ≤ 128) → (1 ≤ words_back k trees width) × (words_back k trees width ≤ 65536)
-words_fit kind.Sum trees width built t w = (w.0, omega (arith, w.1))
-words_fit kind.Point trees width built t w = cells_fit trees width t w
-words_fit kind.Aligned trees width built t w = cells_fit trees width t w
-words_fit kind.Position trees width built t w = absurd cc
+words_fit_of : (second : Bool) (k : PlanKind) (trees width : ℕ) → (1 ≤ trees) × (trees ≤ 512) → (1 ≤ width) × (width ≤ 128) → (1 ≤ words_of second k trees width) × (words_of second k trees width ≤ 65536)
+words_fit_of true k trees width t w = cells_fit trees width t w
+words_fit_of false kind.Sum trees width t w = (w.0, omega (arith, w.1))
+words_fit_of false kind.Point trees width t w = cells_fit trees width t w
+words_fit_of false kind.Aligned trees width t w = cells_fit trees width t w
+words_fit_of false kind.Position trees width t w = (t.0, omega (arith, t.1))
+
+-- ---- the keys of a frame
+
+-- whatever plans are answered so far
+past_kind : (built : Bool) (fault : ProviderFault) (next : Result (Unit {0}) ProviderFault) → (cond {A = Result (Unit {0}) ProviderFault} built (Ok tt) (Err fault) >>= (λ (x : Unit {0}). next)) ≡ Ok tt → next ≡ Ok tt
+past_kind true fault next h = h
+past_kind false fault next h = absurd cc
+
+placed_none : (o : Option ℕ) → if_placed o ≡ Ok tt → o ≡ None
+placed_none None h = refl
+placed_none (Some i) h = absurd cc
+
+-- keys of a frame that is answered lie as the plan asks
+pub placed_layout : (table : TableParts) (checked : Checked) (frame : KeyFrame) → keys_placed table frame checked ≡ Ok tt → layout_differs 0 (trees_in (plan_of checked table.shape) frame.round) frame.keys ≡ None
+unfolding keys_placed
+placed_layout table checked frame h =
+    let next = layout_differs 0 (trees_in (plan_of checked table.shape) frame.round) frame.keys in
+    placed_none next (past_kind (is_built (kind_of checked table.shape.schema.columns)) (NotBuilt (kind_of checked table.shape.schema.columns)) (if_placed next) h)
+
+module _ (table : TableParts) (checked : Checked) (frame : KeyFrame) (allowed : FrameAllowed frame) (placed : layout_differs 0 (trees_in (plan_of checked table.shape) frame.round) frame.keys ≡ None) where
+  abbrev the_kind : PlanKind
+  the_kind = kind_of checked table.shape.schema.columns
+
+  abbrev columns_bits : ℕ
+  columns_bits = last_bits table.shape.schema.columns checked.columns
+
+  abbrev slots : List ℕ
+  slots = range_with_len 0 checked.branches
+
+  pub trees_are : trees_in (plan_of checked table.shape) frame.round ≡ map key_tree frame.keys
+  trees_are = layout_trees 0 (trees_in (plan_of checked table.shape) frame.round) frame.keys placed
+
+  pub tree_count : length (trees_in (plan_of checked table.shape) frame.round) ≡ length frame.keys
+  tree_count = ap (λ (ts : List KeySpec). length ts) trees_are ∙ length-map frame.keys key_tree
+
+  -- a frame of a second round is one of counts
+  pub one_round : (the_kind ≡ kind.Position → ⊥) → frame.round ≡ 1
+  one_round other = by_round (eqb frame.round 2) refl tree_count where
+    by_round : (b : Bool) → eqb frame.round 2 ≡ b → length (trees_of checked.bits columns_bits table.shape.rows checked.range slots the_kind b) ≡ length frame.keys → frame.round ≡ 1
+    by_round true is count = absurd (other (counts_second checked.bits columns_bits table.shape.rows checked.range slots the_kind (omega (arith, count, allowed.count.0))))
+    by_round false is count = (let not = eqb-false frame.round 2 is in omega (arith, not, allowed.round.0, allowed.round.1))
+
+  -- how many bits the numbers of the round have
+  bits_are : (k : PlanKind) → first_bits k frame.round checked table ≡ bits_of checked.bits columns_bits table.shape.rows checked.range slots k (eqb frame.round 2)
+  bits_are kind.Sum = refl
+  bits_are kind.Point = refl
+  bits_are kind.Aligned = refl
+  bits_are kind.Position = refl
+
+  -- the first key has as many levels
+  pub first_key : first_levels frame.keys ≡ first_bits the_kind frame.round checked table
+  first_key =
+      let some = begins checked.bits columns_bits table.shape.rows checked.range slots the_kind (eqb frame.round 2) (omega (arith, tree_count, allowed.count.0)) in
+      ap first_depth (sym trees_are) ∙ some ∙ sym (bits_are the_kind)
+
+  -- and no key has more
+  pub depths_within : AllByRecursion (λ (k : Key). depth k ≤ first_levels frame.keys) frame.keys
+  depths_within =
+      let P : ℕ → KeySpec → Type 0 = λ n t. t.depth ≤ n in
+      let all = within checked.bits columns_bits table.shape.rows checked.range slots the_kind (eqb frame.round 2) in
+      each_key (P (first_levels frame.keys)) frame.keys (subst (λ n. AllByRecursion (P n) (map key_tree frame.keys)) (sym (first_key ∙ bits_are the_kind)) (subst (AllByRecursion (P (bits_of checked.bits columns_bits table.shape.rows checked.range slots the_kind (eqb frame.round 2)))) trees_are all))
+
+  -- in a first round that isn't of an aligned cover, none has fewer
+  pub trees_exact : (the_kind ≡ kind.Aligned → ⊥) → frame.round ≡ 1 → AllByRecursion (λ (t : KeySpec). t.depth ≡ checked.bits) (map key_tree frame.keys)
+  trees_exact other first =
+      let P : KeySpec → Type 0 = λ t. t.depth ≡ checked.bits in
+      let trees = rw first at trees_are in
+      subst (AllByRecursion P) trees (exact checked.bits columns_bits table.shape.rows checked.range slots the_kind other)
+
+  pub depths_exact : (the_kind ≡ kind.Aligned → ⊥) → frame.round ≡ 1 → AllByRecursion (λ (k : Key). depth k ≡ checked.bits) frame.keys
+  depths_exact other first = each_key (λ t. t.depth ≡ checked.bits) frame.keys (trees_exact other first)
+
+  -- ---- numbers
+
+  -- the trees of a first round are few
+  pub tree_few : checked.branches ≤ 8 → first_tree (plan_of checked table.shape) frame.round ≤ 512
+  tree_few eight = by_round (eqb frame.round 2) tree_count where
+    by_round : (b : Bool) → length (trees_of checked.bits columns_bits table.shape.rows checked.range slots the_kind b) ≡ length frame.keys → cond b (length (plan_of checked table.shape).first) 0 ≤ 512
+    by_round true count =
+        let counts = counts_second checked.bits columns_bits table.shape.rows checked.range slots the_kind (omega (arith, count, allowed.count.0)) in
+        let trees = slot_trees the_kind checked.range checked.bits columns_bits in
+        let few = slot_few the_kind checked.range checked.bits columns_bits (λ is. absurd (let same = sym counts ∙ is in cc)) in
+        slots_few checked.branches trees (plan_of checked table.shape).first eight (omega (arith, few)) refl
+    by_round false count = omega arith
+
+  -- the words of an answer, from the number of its keys
+  pub words_count : words_in (plan_of checked table.shape) frame.round ≡ words_of (eqb frame.round 2) the_kind (length frame.keys) (cell_width checked.spec)
+  words_count = words_same (eqb frame.round 2) the_kind (plan_of checked table.shape).second (plan_of checked table.shape).first (length frame.keys) (cell_width checked.spec) tree_count
+
+  -- are 1 to 2^16
+  pub words_fit : (1 ≤ cell_width checked.spec) × (cell_width checked.spec ≤ 128) → (1 ≤ words_in (plan_of checked table.shape) frame.round) × (words_in (plan_of checked table.shape) frame.round ≤ 65536)
+  words_fit wide = rw words_count (words_fit_of (eqb frame.round 2) the_kind (length frame.keys) (cell_width checked.spec) allowed.count wide)

@@ -1,9 +1,12 @@
 pub mod PlainTexts
 pub mod ShapeLines
+pub mod LayoutFaults
 pub mod KeyDepths
 pub mod CellWidths
 pub mod KeySums
 pub mod RowSums
 pub mod Places
 pub mod LevelCells
+pub mod FirstCells
 pub mod AnswerWords
+pub mod RoundWords

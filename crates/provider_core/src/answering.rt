@@ -2,9 +2,11 @@
 ghost use Rattle.std.specs.Prelude.{◌≡◌, ◌+◌, ◌*◌, ◌≤◌, length, vec_len, IfOk, IfErr};
 ghost use Rattle.spl_words.specs.Results.{Gives};
 ghost use Rattle.answer_frames.specs.Spelling.{Allowed, spelling};
+ghost use Rattle.private_plan.specs.Rounds.{first_tree as tree_of_first};
 ghost use Rattle.session_model.specs.Answers.{answer_bytes};
 ghost use Rattle.provider_core.specs.Answering.{answered};
 ghost use Rattle.provider_core.specs.Asking.{IsRequest};
+ghost use Rattle.provider_core.specs.Cells.{words_in as words_in_round};
 ghost use Rattle.provider_core.specs.Faults.{OwnsMemory};
 ghost use Rattle.provider_core.specs.declared.fault.ProviderFault.TheVariants.{OutOfMemory};
 
@@ -14,7 +16,7 @@ use crate::words::{Folding, fill_words, first_cells};
 use answer_frames::{AnswerFrame, fill_answer};
 use csv_tables::table_digest;
 use key_frames::frame_digest;
-use private_plan::plan;
+use private_plan::{Plan, plan};
 use query_reader::laws::{accepted_has_cells, accepted_has_keys};
 use seed_expansion::Expander;
 use share_eval::{Gate, Lane};
@@ -32,6 +34,29 @@ fn bytes_of(frame: &AnswerFrame, room: Vec<u8>) -> Vec<u8>
     let mut bytes = room;
     fill_answer(frame, &mut bytes);
     bytes
+}
+
+/// The number of the first tree of a plan's round: those of the second round follow on.
+fn first_tree(plan: &Plan, round: u32) -> u32
+    requires { tree_of_first plan.now round ≤ 512 }
+    ensures { result ≡ tree_of_first plan.now round }
+{
+    if round == 2 {
+        plan.first.as_slice().len() as u32
+    } else {
+        0
+    }
+}
+
+/// How many words answer a round of a plan.
+fn words_in(plan: &Plan, round: u32) -> usize
+    ensures { result ≡ words_in_round plan.now round }
+{
+    if round == 2 {
+        plan.second_words as usize
+    } else {
+        plan.first_words as usize
+    }
 }
 
 /// The frame's bytes, once nothing refuses it. All memory is taken before the first share is expanded.
@@ -54,17 +79,19 @@ fn reply<T: Threads + Sync, E: Expander + Sync, G: Gate + Sync>(
     let _ = table.shape();
     accepted_has_cells();
     accepted_has_keys();
+    let round = asked.frame.round;
     let plan = plan(alloc, &asked.checked, table.shape())?;
-    let mut cells = first_cells(alloc, plan.kind, &asked.checked, table)?;
+    let mut cells = first_cells(alloc, plan.kind, round, &asked.checked, table)?;
     let digest = table_digest(alloc, table)?;
     let mut lanes = vec![in alloc; Lane { sums: [0; 128] }; workers]?;
     let mut part = vec![in alloc; 0u64; cells.width as usize]?;
-    let mut words = vec![in alloc; 0u64; plan.first_words as usize]?;
-    let room = vec![in alloc; 0u8; 123 + 8 * plan.first_words as usize]?;
+    let mut words = vec![in alloc; 0u64; words_in(&plan, round)]?;
+    let room = vec![in alloc; 0u8; 123 + 8 * words.len()]?;
     let folding = Folding {
         expander,
         provider,
         asked,
+        first_tree: first_tree(&plan, round),
         table,
     };
     fill_words(
@@ -72,7 +99,7 @@ fn reply<T: Threads + Sync, E: Expander + Sync, G: Gate + Sync>(
     );
     let frame = AnswerFrame {
         session: asked.frame.session,
-        round: asked.frame.round,
+        round,
         provider,
         key: frame_digest(bytes),
         table: digest,

@@ -7,6 +7,7 @@ mod asked;
 mod fault;
 mod layout;
 mod levels;
+mod ones;
 mod shapes;
 mod sums;
 mod words;

@@ -1,22 +1,38 @@
-use Rattle.std.proofs.Common.{subst, ap, ◌∙◌}
-use Rattle.spl_values.specs.Shapes.{IsShape, ShapeParts}
-use Rattle.query_reader.proofs.Known.{checked_narrow}
-use Rattle.private_plan.specs.Slots.{slots_of}
-use Rattle.private_plan.proofs.Accepted.{slots_are}
-use Rattle.private_plan.proofs.FirstTrees.{last_some}
+use Rattle.std.proofs.Common.{◌≤◌, Ok, Err, List, sym, ap, subst, ◌∙◌}
+use Rattle.std.proofs.lemmas.Result.{err_from_is_err_and}
+use Rattle.spl_words.specs.Secrets.{Secret}
+use Rattle.spl_values.specs.Shapes.{ShapeParts}
+use Rattle.private_plan.specs.declared.plans.Plan.{Plan}
+use Rattle.private_plan.specs.declared.secrets.SecretFault.{SecretFault}
+use Rattle.private_plan.specs.Counts.{counts_taken}
+use Rattle.private_plan.proofs.PositionSlots.{counts_few, never_both, secrets_refused, secrets_told}
 use Rattle.private_plan.proofs.secrets.round_secrets.Goals as goal
 
-pub slots_secrets-requires-clause-some : goal.slots_secrets-requires-clause-some
-slots_secrets-requires-clause-some c =
-    let shape : IsShape c.args.shape.now = subst IsShape c.shape.view_is c.shape.invariant in
-    rw c.sizes_of-sizes.ensures.last (last_some c.args.checked.now c.args.shape.now c.args.params.now c.requires.accepted c.facts.ensures.form shape.schema)
+pub check_counts-requires : goal.check_counts-requires
+check_counts-requires c =
+    let plan = c.requires.plan in
+    counts_few c.args.checked.now c.args.shape.now c.args.round c.args.counts.now c.requires.accepted c.requires.round.0 (subst (λ (p : Plan). c.args.round ≤ p.rounds) plan c.requires.round.1) c.requires.none
+    (λ e. c.requires.told e ∙ ap (λ (p : Plan). p.first_words) plan)
 
-pub slots_secrets-requires-clause-bits : goal.slots_secrets-requires-clause-bits
-slots_secrets-requires-clause-bits c = rw c.sizes_of-sizes.ensures.bits (checked_narrow c.args.checked.now c.args.shape.now.schema c.requires.accepted)
+pub returns-in_err-check_counts-clause-refusals : goal.returns-in_err-check_counts-clause-refusals
+returns-in_err-check_counts-clause-refusals c = λ e told.
+    let failed = err_from_is_err_and c.from_residual.result c.from_residual.ensures.1 in
+    let refused = sym (ap (λ (s : ShapeParts). counts_taken s.rows 0 c.args.counts.now) c.shape.view_is) ∙ (sym c.check_counts.ensures ∙ c.in_err-check_counts.was) in
+    failed.1 ∙ ap (λ (x : SecretFault). Err x) failed.2
+    ∙ (sym (secrets_refused c.args.checked.now c.args.shape.now c.args.params.now (record { number = c.args.round; counts = c.args.counts.now }) _ refused) ∙ told)
 
-pub slots_secrets-requires-clause-slots : goal.slots_secrets-requires-clause-slots
-slots_secrets-requires-clause-slots c =
-    let checked = c.args.checked.now in
-    let shape = c.args.shape.now in
-    let slots = c.as_slice.ensures.value ∙ c.slots-slots.ensures.slots ∙ ap (λ (s : ShapeParts). slots_of checked s.schema.columns c.args.params.now) c.shape.view_is in
-    rw (c.sizes_of-sizes.ensures.bits, c.sizes_of-sizes.ensures.last, slots) (slots_are checked shape.schema c.args.params.now c.requires.accepted c.facts.ensures.form c.requires.params)
+pub returns-in_err-secrets-clause-refusals : goal.returns-in_err-secrets-clause-refusals
+returns-in_err-secrets-clause-refusals c = λ e told.
+    let taken = sym (ap (λ (s : ShapeParts). counts_taken s.rows 0 c.args.counts.now) c.shape.view_is) ∙ (sym c.check_counts.ensures ∙ c.in_ok-check_counts.was) in
+    absurd (never_both _ _ _ (secrets_told c.args.checked.now c.args.shape.now c.args.params.now (record { number = c.args.round; counts = c.args.counts.now }) taken) told)
+
+pub returns-clause-gives : goal.returns-clause-gives
+returns-clause-gives c =
+    let taken = sym (ap (λ (s : ShapeParts). counts_taken s.rows 0 c.args.counts.now) c.shape.view_is) ∙ (sym c.check_counts.ensures ∙ c.in_ok-check_counts.was) in
+    secrets_told c.args.checked.now c.args.shape.now c.args.params.now (record { number = c.args.round; counts = c.args.counts.now }) taken
+    ∙ ap (λ (l : List Secret). Ok l) (sym (c.from_vec.ensures ∙ c.in_ok-secrets.ensures))
+
+pub returns-clause-refusals : goal.returns-clause-refusals
+returns-clause-refusals c = λ e told.
+    let taken = sym (ap (λ (s : ShapeParts). counts_taken s.rows 0 c.args.counts.now) c.shape.view_is) ∙ (sym c.check_counts.ensures ∙ c.in_ok-check_counts.was) in
+    absurd (never_both _ _ _ (secrets_told c.args.checked.now c.args.shape.now c.args.params.now (record { number = c.args.round; counts = c.args.counts.now }) taken) told)

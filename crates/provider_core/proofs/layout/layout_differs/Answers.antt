@@ -1,5 +1,5 @@
 use Rattle.std.proofs.Common.{◌≡◌, length, refl, sym, ◌∙◌, arith}
-use Rattle.provider_core.proofs.KeyDepths.{differs_here, same_here, one_missing, none_differs}
+use Rattle.provider_core.proofs.LayoutFaults.{differs_here, same_here, one_missing, none_differs}
 use Rattle.provider_core.proofs.layout.layout_differs.Goals as goal
 
 pub loop-place-init : goal.loop-place-init

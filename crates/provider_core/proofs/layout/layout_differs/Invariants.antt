@@ -1,6 +1,6 @@
 use Rattle.std.proofs.Common.{◌≡◌}
 use Rattle.provider_core.specs.Layouts.{layout_differs}
-use Rattle.provider_core.proofs.KeyDepths.{left_differs}
+use Rattle.provider_core.proofs.LayoutFaults.{left_differs}
 use Rattle.provider_core.proofs.layout.layout_differs.Given as goal
 
 abbrev pub invariant-loop-place : goal.invariant-loop-place

@@ -21,7 +21,7 @@ loop-tree-preserved g c = λ entries are.
     let keys = c.as_slice-keys.result.now in
     let t = c.loop-tree.tree in
     let k = c.index-keys-tree.result in
-    let share = λ (i : ℕ) (key : Key). key_share (g.E.Expander.meaning f.expander.now) f.provider i key in
+    let share = λ (i : ℕ) (key : Key). key_share (g.E.Expander.meaning f.expander.now) f.provider (f.first_tree + i) key in
     let here = slice_get_read keys (length keys) t k refl c.loop-tree-test.true c.index-keys-tree.is in
     let before = c.loop-tree.invariant entries are in
     elim c.if-depth-level_depth.branch [
