@@ -36,4 +36,4 @@ returns-in-Ok-round_with-clause-lengths g c =
 pub round_secrets-requires-clause-round : goal.round_secrets-requires-clause-round
 round_secrets-requires-clause-round g c =
     let some = has_round c.args.checked.now c.args.shape.now in
-    (omega arith, subst (λ (p : Plan). 1 ≤ p.rounds) (sym c.in-Ok-plan.ensures) some)
+    (omega arith, subst (λ (p : Plan). 1 ≤ p.rounds) (sym c.in-Ok.ensures) some)
