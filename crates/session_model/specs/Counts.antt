@@ -1,5 +1,5 @@
 -- A plan of two rounds: the counts that come back in the first round, and the cells that come back in the second.
-use Rattle.std.specs.Prelude.{ℕ, ◌≤◌, Bool, nat_le, nat_lt, List, [], ◌∷◌, map, sum_by, Option, None, Some, Unit, if◌then◌else◌}
+use Rattle.std.specs.Prelude.{ℕ, ◌≤◌, Bool, nat_le, nat_lt, List, [], ◌∷◌, map, sum_by, Option, None, Some, if◌then◌else◌}
 use Rattle.std.specs.List.{flat_map}
 use Rattle.spl_words.specs.declared.provider.Provider.{Provider}
 use Rattle.spl_words.specs.Secrets.{Secret}
