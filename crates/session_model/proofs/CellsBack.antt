@@ -37,7 +37,7 @@ use Rattle.session_model.specs.Answers.{answer_words, entries_of, entry_width, w
 use Rattle.session_model.specs.Cells.{cells_back, each_told, first_answer, rows_back, rows_for, told_rows}
 use Rattle.session_model.proofs.Answers.{answers_add, one_fold}
 use Rattle.session_model.proofs.BackRows.{cells_small, picked_small, sum_rows, told_back, told_picked}
-use Rattle.session_model.proofs.CellSums.{length-cell, same_lengths, word_at, wordwise}
+use Rattle.session_model.proofs.CellSums.{added_at, length-cell, same_lengths, wordwise}
 use Rattle.session_model.proofs.CellWords.{AreWords, word_small, words_both}
 use Rattle.session_model.proofs.KeptRows.{kept_below}
 use Rattle.session_model.proofs.Plans.{built_kinds, cell_folds, folds_are, points_deep, sums_of_kind}
@@ -157,11 +157,7 @@ module _ (checked : Checked) (t : TableParts) (params : List ℕ) (roots : List 
 
     pub word_added : IsBuilt checked t.shape.schema.columns → (k : ℕ) → k < length (cells_back checked t params)
         → plus (slice_index (first_answer e Zero checked t params roots) k) (slice_index (first_answer e One checked t params roots) k) ≡ slice_index (cells_back checked t params) k
-    word_added built k here =
-        let zero_long = answer_length e Zero built in
-        let one_long = answer_length e One built in
-        sym (word_at (first_answer e Zero checked t params roots) (first_answer e One checked t params roots) k (omega (arith, here, zero_long)) (omega (arith, here, one_long)))
-        ∙ ap (λ l. slice_index l k) (both_add built)
+    word_added built k = added_at (first_answer e Zero checked t params roots) (first_answer e One checked t params roots) (cells_back checked t params) k (answer_length e Zero built) (answer_length e One built) (both_add built)
 
 -- ---- how many words come back
 

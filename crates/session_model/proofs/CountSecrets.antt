@@ -1,5 +1,5 @@
 -- The secrets of counts, and what their keys' words add to.
-use Rattle.std.proofs.Common.{◌≡◌, ℕ, zero, suc, ◌+◌, ◌-◌, ◌*◌, ◌%◌, ◌^◌, ◌<◌, ◌≤◌, Bool, true, false, cond, leb, ltb, List, [], ◌∷◌, ◌++◌, length, Option, Some, None, refl, sym, ap, ap₂, ◌∙◌, arith, IfSome}
+use Rattle.std.proofs.Common.{◌≡◌, ℕ, zero, suc, ◌+◌, ◌*◌, ◌%◌, ◌^◌, ◌<◌, ◌≤◌, Bool, true, false, cond, List, [], ◌∷◌, ◌++◌, length, Option, Some, None, refl, sym, ap, ap₂, ◌∙◌, arith, IfSome}
 use Rattle.std.specs.Prelude.{map, nat_le, nat_lt, slice_index, sum_by}
 use Rattle.std.specs.List.{AllByRecursion, flat_map}
 use Rattle.std.proofs.Math.Nat.{mod-eq_of_lt}
@@ -121,6 +121,6 @@ module _ (checked : Checked) (t : TableParts) where
       (λ s is. record {
         secret = is.of.secret;
         fits = each-map (λ (q : ℕ × List ℕ). AllByRecursion (λ (u : Secret). q.0 < 2 ^ u.depth) (s ∷ [])) one_word (kept_rows checked t)
-          (each_weaker (λ r. key r < 2 ^ checked.bits) (λ r. AllByRecursion (λ (u : Secret). key r < 2 ^ u.depth) (s ∷ [])) (λ r h. numbers checked.bits (key r) (s ∷ []) (is.of, tt) h) (kept_rows checked t) below);
+            (each_weaker (λ r. key r < 2 ^ checked.bits) (λ r. AllByRecursion (λ (u : Secret). key r < 2 ^ u.depth) (s ∷ [])) (λ r h. numbers checked.bits (key r) (s ∷ []) (is.of, tt) h) (kept_rows checked t) below);
         words = λ k here. count_word s k is.bit few here;
       }) ss

@@ -1,5 +1,5 @@
 -- The words of both answers in the first round of a plan of two add to the counts.
-use Rattle.std.proofs.Common.{◌≡◌, ℕ, ◌+◌, ◌*◌, ◌^◌, ◌<◌, ◌≤◌, List, [], ◌∷◌, length, Option, Some, None, refl, sym, ap, ap₂, subst, ◌∙◌, arith}
+use Rattle.std.proofs.Common.{◌≡◌, ℕ, ◌*◌, ◌^◌, ◌<◌, List, [], ◌∷◌, length, Option, Some, None, refl, sym, ap, ap₂, subst, ◌∙◌, arith}
 use Rattle.std.specs.Prelude.{map, nat_le, nat_lt, slice_index}
 use Rattle.std.specs.List.{AllByRecursion, flat_map}
 use Rattle.std.proofs.lemmas.List.{length-map}
@@ -17,7 +17,6 @@ use Rattle.query_reader.specs.Accepted.{IsCheckedFor}
 use Rattle.query_reader.specs.Matching.{kept_rows}
 use Rattle.query_reader.specs.Params.{AreParamsFor}
 use Rattle.key_frames.specs.Trees.{key_list}
-use Rattle.private_plan.specs.declared.plans.PlanKind.{PlanKind}
 use Rattle.private_plan.specs.declared.plans.PlanKind.TheVariants as kind
 use Rattle.private_plan.specs.Plans.{last_bits, plan_of, words_back}
 use Rattle.private_plan.specs.Rounds.{Entries, ones, each_tree, first_round, first_secrets, folds_for, secrets_in}
@@ -27,7 +26,7 @@ use Rattle.cell_merge.specs.Cells.{cell_width}
 use Rattle.session_model.specs.Answers.{answer_words, words_of_fold}
 use Rattle.session_model.specs.Cells.{first_answer}
 use Rattle.session_model.specs.Counts.{counts_of, slot_counts}
-use Rattle.session_model.proofs.CellSums.{same_lengths, wordwise, word_at}
+use Rattle.session_model.proofs.CellSums.{added_at, same_lengths, wordwise}
 use Rattle.session_model.proofs.CellWords.{AreWords}
 use Rattle.session_model.proofs.CountSecrets.{IsCount, all_counted, counted, counts_are, counts_tell}
 use Rattle.session_model.proofs.KeptRows.{few_kept, kept_below}
@@ -110,8 +109,4 @@ module _ (checked : Checked) (t : TableParts) (params : List ℕ) (accepted : Is
 
       pub count_added : (k : ℕ) → k < length (counts_of checked t params)
           → plus (slice_index (first_answer e Zero checked t params roots) k) (slice_index (first_answer e One checked t params roots) k) ≡ slice_index (counts_of checked t params) k
-      count_added k here =
-          let zero_long = count_length e Zero in
-          let one_long = count_length e One in
-          sym (word_at (first_answer e Zero checked t params roots) (first_answer e One checked t params roots) k (omega (arith, here, zero_long)) (omega (arith, here, one_long)))
-          ∙ ap (λ l. slice_index l k) counts_add
+      count_added k = added_at (first_answer e Zero checked t params roots) (first_answer e One checked t params roots) (counts_of checked t params) k (count_length e Zero) (count_length e One) counts_add

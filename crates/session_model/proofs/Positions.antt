@@ -1,5 +1,5 @@
 -- Which positions the kept rows of an interval of joined keys have.
-use Rattle.std.proofs.Common.{◌≡◌, ℕ, ◌^◌, ◌<◌, ◌≤◌, Bool, true, false, ◌&&◌, ◌||◌, not, cond, leb, ltb, eqb, List, length, inl, inr, refl, sym, ap, ap₂, ◌∙◌, arith}
+use Rattle.std.proofs.Common.{◌≡◌, ℕ, ◌<◌, ◌≤◌, Bool, true, false, ◌&&◌, ◌||◌, not, cond, eqb, length, inl, inr, refl, sym, ap, ap₂, ◌∙◌, arith}
 use Rattle.std.specs.Prelude.{nat_le, nat_lt}
 use Rattle.std.specs.List.{AllByRecursion}
 use Rattle.std.proofs.lemmas.Bool.{cases_Bool, cases_lt, false≢true}
@@ -11,7 +11,7 @@ use Rattle.query_reader.specs.Matching.{kept_rows}
 use Rattle.count_sum.specs.SumPairs.{joined_key}
 use Rattle.count_sum.specs.Positions.{comes_before, position}
 use Rattle.session_model.specs.Counts.{count_keys, keys_below, keys_upto}
-use Rattle.session_model.proofs.RowSums.{IsIn, count, count_fewer, count_weaker, each_in, sum_most}
+use Rattle.session_model.proofs.RowSums.{IsIn, count_fewer, count_weaker, each_in, sum_most}
 
 -- ---- tests of two numbers
 

@@ -1,5 +1,5 @@
 -- The words of both answers in the second round add to the cells that come back, and these merge to the cell of the rows that match.
-use Rattle.std.proofs.Common.{◌≡◌, ℕ, ◌+◌, ◌-◌, ◌*◌, ◌/◌, ◌^◌, ◌<◌, ◌≤◌, cond, List, [], ◌∷◌, length, Option, refl, sym, ap, ap₂, ◌∙◌, arith}
+use Rattle.std.proofs.Common.{◌≡◌, ℕ, ◌-◌, ◌*◌, ◌^◌, ◌<◌, cond, List, length, refl, sym, ap, ap₂, ◌∙◌, arith}
 use Rattle.std.specs.Prelude.{map, slice_index, sum_by}
 use Rattle.std.specs.List.{AllByRecursion, flat_map}
 use Rattle.std.proofs.lemmas.List.{length-map}
@@ -11,7 +11,7 @@ use Rattle.spl_words.specs.declared.provider.Provider.{Provider}
 use Rattle.spl_words.specs.declared.provider.Provider.TheVariants.{Zero, One}
 use Rattle.spl_values.specs.Tables.{TableParts, IsTable}
 use Rattle.seed_expansion.specs.Expanders.{Meaning, IsPure}
-use Rattle.interval_keys.specs.Intervals.{Span, slot_value}
+use Rattle.interval_keys.specs.Intervals.{slot_value}
 use Rattle.cell_merge.specs.Rows.{Row}
 use Rattle.cell_merge.specs.Cells.{cell, cell_width, merge_all}
 use Rattle.cell_merge.specs.TableRows.{adds_in}
@@ -24,7 +24,6 @@ use Rattle.query_reader.specs.Params.{AreParamsFor}
 use Rattle.query_reader.proofs.Known.{checked_branches}
 use Rattle.count_sum.specs.Positions.{position}
 use Rattle.key_frames.specs.Trees.{key_list}
-use Rattle.private_plan.specs.declared.plans.PlanKind.{PlanKind}
 use Rattle.private_plan.specs.declared.plans.PlanKind.TheVariants as kind
 use Rattle.private_plan.specs.Plans.{for_each_slot, level_trees, plan_of, position_bits, second_trees}
 use Rattle.private_plan.specs.Rounds.{Entries, by_position, each_tree, first_depth, first_tree, folds_for}
@@ -34,7 +33,7 @@ use Rattle.session_model.specs.Answers.{answer_words, words_of_fold}
 use Rattle.session_model.specs.Cells.{ArePicked}
 use Rattle.session_model.specs.Counts.{cells_back_second, counts_of, placed_rows, rows_back_second, second_answer, second_asked}
 use Rattle.session_model.proofs.BackRows.{each_picked, each_small, picked_small, told_picked}
-use Rattle.session_model.proofs.CellSums.{length-cell, same_lengths, word_at, wordwise}
+use Rattle.session_model.proofs.CellSums.{added_at, length-cell, same_lengths, wordwise}
 use Rattle.session_model.proofs.CellWords.{AreWords}
 use Rattle.session_model.proofs.CellsMerge.{said, told_merge}
 use Rattle.session_model.proofs.PositionSlots.{are_counts, count_slots, kept_most, positions_held}
@@ -158,8 +157,4 @@ module _ (checked : Checked) (t : TableParts) (params : List ℕ) (accepted : Is
 
         pub second_added : (k : ℕ) → k < length (cells_back_second checked t params)
             → plus (slice_index (second_answer e Zero checked t params roots) k) (slice_index (second_answer e One checked t params roots) k) ≡ slice_index (cells_back_second checked t params) k
-        second_added k here =
-            let zero_long = second_length e Zero in
-            let one_long = second_length e One in
-            sym (word_at (second_answer e Zero checked t params roots) (second_answer e One checked t params roots) k (omega (arith, here, zero_long)) (omega (arith, here, one_long)))
-            ∙ ap (λ l. slice_index l k) second_adds
+        second_added k = added_at (second_answer e Zero checked t params roots) (second_answer e One checked t params roots) (cells_back_second checked t params) k (second_length e Zero) (second_length e One) second_adds

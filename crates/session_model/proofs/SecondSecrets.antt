@@ -1,11 +1,11 @@
 -- The secrets of a second round: their trees, that they are points, and what they say of positions.
-use Rattle.std.proofs.Common.{◌≡◌, ℕ, zero, suc, ◌+◌, ◌-◌, ◌/◌, ◌^◌, ◌<◌, ◌≤◌, Bool, true, false, leb, ltb, List, [], ◌∷◌, ◌++◌, length, map, replicate, Option, Some, None, inl, inr, refl, sym, ap, ap₂, ◌∙◌, arith, IfSome, if◌then◌else◌}
+use Rattle.std.proofs.Common.{◌≡◌, ℕ, zero, suc, ◌+◌, ◌-◌, ◌^◌, ◌<◌, ◌≤◌, Bool, true, false, List, [], ◌∷◌, ◌++◌, length, map, replicate, Option, Some, None, refl, sym, ap, ap₂, ◌∙◌, arith, IfSome, if◌then◌else◌}
 use Rattle.std.specs.Prelude.{find, nat_le, nat_lt, slice_get, sum_by, unwrap_or}
 use Rattle.std.specs.List.{AllByRecursion, flat_map, range_with_len}
 use Rattle.std.proofs.Math.Nat.{div-eq_of_lt}
-use Rattle.std.proofs.lemmas.Bool.{cases_Bool, false≢true, leb-true}
+use Rattle.std.proofs.lemmas.Bool.{false≢true, leb-true}
 use Rattle.std.proofs.lemmas.Bool.Decides.{nat_tests}
-use Rattle.spl_words.specs.Secrets.{Secret, secret_tree, secret_value}
+use Rattle.spl_words.specs.Secrets.{Secret, secret_tree}
 use Rattle.spl_words.specs.declared.secret.KeySpec.{KeySpec}
 use Rattle.spl_words.specs.declared.secret.TreeKind.TheVariants.{Point}
 use Rattle.interval_keys.specs.Intervals.{Span, slot_value}
@@ -15,7 +15,7 @@ use Rattle.query_reader.proofs.Lists.{all_at}
 use Rattle.private_plan.specs.declared.plans.PlanKind.TheVariants as kind
 use Rattle.private_plan.specs.Plans.{level_trees, position_bits, tree}
 use Rattle.private_plan.specs.Rounds.{first_depth, second_secrets}
-use Rattle.private_plan.specs.Slots.{IsPointOf, IsSlot, cover_secrets, level_secrets, position_slot, position_slots, range_secret, slot_level}
+use Rattle.private_plan.specs.Slots.{IsPointOf, IsSlot, cover_secrets, level_secrets, position_slots, range_secret, slot_level}
 use Rattle.private_plan.proofs.PointSecrets.{slots_points, slots_tell, told}
 use Rattle.session_model.specs.Counts.{AreCounts}
 

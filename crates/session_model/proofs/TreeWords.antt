@@ -153,8 +153,8 @@ module _ (checked : Checked) (t : TableParts) (number : Row → ℕ) (bits : ℕ
     secret = record { number = is.number; word = omega (arith, is.once) };
     fits = numbers_fit s is;
     words = λ k here.
-      same_fold (secrets_value (s ∷ [])) (secret_value s) (λ x. alone s x is.is_point is.once) (cells_at checked t number (bits - s.depth)) k
-      ∙ (fold_told (adds_in t.shape.schema.columns) checked.spec (short s) (kept_rows checked t) s is.is_point is.once k ∙ mod-eq_of_lt (word_small (told_cell s) k small here));
+        same_fold (secrets_value (s ∷ [])) (secret_value s) (λ x. alone s x is.is_point is.once) (cells_at checked t number (bits - s.depth)) k
+        ∙ (fold_told (adds_in t.shape.schema.columns) checked.spec (short s) (kept_rows checked t) s is.is_point is.once k ∙ mod-eq_of_lt (word_small (told_cell s) k small here));
   }
 
   pub points_tell : ((s : Secret) → AreWords (told_cell s)) → (ss : List Secret) → AllByRecursion (IsPointOf bits) ss → AllByRecursion (λ s. Tells s (cells_at checked t number (bits - s.depth)) (told_cell s)) ss
