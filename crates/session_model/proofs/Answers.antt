@@ -1,9 +1,8 @@
 -- The answers of both providers add to the cell of the rows that match.
-use Rattle.std.proofs.Common.{◌≡◌, ℕ, ◌+◌, ◌*◌, ◌%◌, ◌^◌, ◌<◌, true, cond, List, [], ◌∷◌, length, take, refl, sym, ap, ap₂, ◌∙◌, arith}
-use Rattle.std.specs.Prelude.{map, slice_index, sum_by}
+use Rattle.std.proofs.Common.{◌≡◌, ℕ, ◌*◌, ◌%◌, ◌^◌, ◌<◌, true, cond, List, [], ◌∷◌, length, take, ap, ◌∙◌, arith}
+use Rattle.std.specs.Prelude.{slice_index}
 use Rattle.std.specs.List.{AllByRecursion, flat_map, list_all}
 use Rattle.std.proofs.lemmas.List.{append-nil, take_all}
-use Rattle.std.proofs.lemmas.List.Sums.{sum_by-cons}
 use Rattle.spl_words.specs.Words.{plus}
 use Rattle.spl_words.specs.Folds.{fold_word, fold_words}
 use Rattle.spl_words.specs.Secrets.{Secret, secrets_value}
@@ -38,6 +37,7 @@ use Rattle.private_plan.proofs.SlotSecrets.{secrets_tell, slots_fit}
 use Rattle.session_model.specs.Answers.{answer_words, words_of_fold}
 use Rattle.session_model.proofs.CellSums.{rows_add}
 use Rattle.session_model.proofs.KeptRows.{each_kept, few_kept, kept_apart, kept_below}
+use Rattle.session_model.proofs.RowSums.{over_rows, same_sums}
 use Rattle.session_model.proofs.SumSecrets.{IsOf, slots_are, secrets, numbers}
 use Rattle.session_model.proofs.TableRows.{row_codes, row_key_same}
 
@@ -56,17 +56,6 @@ one_fold e p round keys checked table sum is same =
     let words = λ (ks : List Key). fold_words (key_shares e p 0 ks) (sum_pairs checked table) (cell_width checked.spec) in
     rw is (ap (λ (k : PlanKind). flat_map (words_of_fold e p 0 keys checked table) (folds_for k 1 trees)) sum
     ∙ (append-nil (words (take (length trees) keys)) ∙ ap words (take_all (length trees) keys (omega (arith, same)))))
-
--- ---- sums over rows
-
--- a sum over pairs made of rows is a sum over the rows
-over_rows : (F : ℕ × List ℕ → ℕ) (h : Row → ℕ × List ℕ) (rows : List Row) → sum_by F (map h rows) ≡ sum_by (λ r. F (h r)) rows
-over_rows F h [] = refl
-over_rows F h (r ∷ rows) = sum_by-cons F (h r) (map h rows) ∙ (ap (λ n. F (h r) + n) (over_rows F h rows) ∙ sym (sum_by-cons (λ q. F (h q)) r rows))
-
-same_sums : (f g : Row → ℕ) (rows : List Row) → AllByRecursion (λ r. f r ≡ g r) rows → sum_by f rows ≡ sum_by g rows
-same_sums f g [] each = refl
-same_sums f g (r ∷ rows) each = sum_by-cons f r rows ∙ (ap₂ (λ m n. m + n) each.0 (same_sums f g rows each.1) ∙ sym (sum_by-cons g r rows))
 
 -- ---- the answers
 

@@ -13,20 +13,21 @@ use Rattle.query_reader.specs.Accepted.{IsCheckedFor}
 use Rattle.query_reader.specs.Matching.{is_kept, matching_rows, some_branch_holds}
 use Rattle.query_reader.proofs.Known.{checked_fits}
 use Rattle.clear_sql.proofs.MatchingCells.{filter_filter, length-rows_of}
+use Rattle.count_sum.specs.SumPairs.{joined_key}
 use Rattle.private_plan.specs.declared.plans.PlanKind.{PlanKind}
 use Rattle.private_plan.specs.declared.plans.PlanKind.TheVariants as kind
 use Rattle.private_plan.specs.Plans.{brings_cells, kind_of}
-use Rattle.session_model.specs.Cells.{ArePicked, cells_back, each_told, rows_back, rows_for, told_rows}
+use Rattle.session_model.specs.Cells.{ArePicked, cells_back, each_told, rows_back, rows_for, told_by}
 use Rattle.session_model.proofs.CellWords.{AreWords, cell_small, filter_few, rows_are, words_both}
 
 -- ---- rows
 
-pub told_picked : (checked : Checked) (t : TableParts) (s : Secret) → ArePicked t (told_rows checked t s)
-told_picked checked t s = (_, filter_filter (is_kept checked.public) _ (rows_of t))
+pub told_picked : (checked : Checked) (t : TableParts) (number : Row → ℕ) (bits : ℕ) (s : Secret) → ArePicked t (told_by checked t number bits s)
+told_picked checked t number bits s = (_, filter_filter (is_kept checked.public) _ (rows_of t))
 
-each_picked : (checked : Checked) (t : TableParts) (ss : List Secret) → AllByRecursion (ArePicked t) (map (told_rows checked t) ss)
-each_picked checked t [] = tt
-each_picked checked t (s ∷ ss) = (told_picked checked t s, each_picked checked t ss)
+pub each_picked : (checked : Checked) (t : TableParts) (number : Row → ℕ) (bits : ℕ) (ss : List Secret) → AllByRecursion (ArePicked t) (map (told_by checked t number bits) ss)
+each_picked checked t number bits [] = tt
+each_picked checked t number bits (s ∷ ss) = (told_picked checked t number bits s, each_picked checked t number bits ss)
 
 -- each cell that comes back is one of rows of the table that pass a test
 pub back_picked : (checked : Checked) (t : TableParts) (params : List ℕ) → AllByRecursion (ArePicked t) (rows_back checked t params)
@@ -37,8 +38,8 @@ back_picked checked t params = by_kind (kind_of checked t.shape.schema.columns)
     by_kind kind.Sum =
         let holds = some_branch_holds checked.branches checked.columns checked.range params in
         (((λ r. is_kept checked.public r && holds r), filter_filter (is_kept checked.public) holds (rows_of t)), tt)
-    by_kind kind.Point = each_picked checked t _
-    by_kind kind.Aligned = each_picked checked t _
+    by_kind kind.Point = each_picked checked t (joined_key checked t) checked.bits _
+    by_kind kind.Aligned = each_picked checked t (joined_key checked t) checked.bits _
     by_kind kind.Position = tt
 
 picked_few : (t : TableParts) (rows : List Row) → ArePicked t rows → length rows ≤ length t.rows
@@ -66,7 +67,7 @@ module _ (checked : Checked) (t : TableParts) (valid : IsTable t) (accepted : Is
       let few : length (rows_of t) < 2 ^ 64 = omega (arith, count, valid.count, valid.shape.few) in
       subst (λ l. AreWords (cell adds checked.spec l)) (sym is.1) (cell_small columns adds checked.spec (filter is.0 (rows_of t)) fits.kept (filter_few columns is.0 (rows_of t) (rows_are t valid, few)))
 
-  each_small : (back : List (List Row)) → AllByRecursion (ArePicked t) back → AreWords (flat_map (cell adds checked.spec) back)
+  pub each_small : (back : List (List Row)) → AllByRecursion (ArePicked t) back → AreWords (flat_map (cell adds checked.spec) back)
   each_small [] each = tt
   each_small (rows ∷ back) each = words_both (cell adds checked.spec rows) (flat_map (cell adds checked.spec) back) (picked_small rows each.0) (each_small back each.1)
 

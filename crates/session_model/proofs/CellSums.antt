@@ -68,11 +68,15 @@ blocks_add (suc n) is a b s la lb =
     let more = blocks_add n is (drop w a) (drop w b) s (omega (arith, la, split, three)) (omega (arith, lb, split, four)) in
     rw (here, more) (sym (wordwise_parts w a b))
 
-pub word_at : (a b : List ℕ) (k : ℕ) → k < length a → k < length b → slice_index (wordwise a b) k ≡ plus (slice_index a k) (slice_index b k)
+word_at : (a b : List ℕ) (k : ℕ) → k < length a → k < length b → slice_index (wordwise a b) k ≡ plus (slice_index a k) (slice_index b k)
 word_at [] b k h i = absurd (omega (arith, h))
 word_at (x ∷ xs) [] k h i = absurd (omega (arith, i))
 word_at (x ∷ xs) (y ∷ ys) zero h i = refl
 word_at (x ∷ xs) (y ∷ ys) (suc k) h i = word_at xs ys k (omega (arith, h)) (omega (arith, i))
+
+-- and so the words of two lists add to those of the list to which both add
+pub added_at : (a b c : List ℕ) (k : ℕ) → length a ≡ length c → length b ≡ length c → wordwise a b ≡ c → k < length c → plus (slice_index a k) (slice_index b k) ≡ slice_index c k
+added_at a b c k long wide added here = sym (word_at a b k (omega (arith, here, long)) (omega (arith, here, wide))) ∙ ap (λ l. slice_index l k) added
 
 pub same_lengths : {X : Type 0} (f : X → List ℕ) (k : ℕ) → ((x : X) → length (f x) ≡ k) → (xs : List X) → length (flat_map f xs) ≡ length xs * k
 same_lengths f k each [] = sym (zero-mul k)

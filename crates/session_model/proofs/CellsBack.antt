@@ -1,11 +1,13 @@
 -- The words of both answers add to the words of the cells that come back.
 use Rattle.std.proofs.Common.{◌≡◌, ℕ, ◌+◌, ◌*◌, ◌<◌, true, List, [], ◌∷◌, length, take, drop, inl, inr, refl, sym, ap, ap₂, subst, ◌∙◌, arith}
-use Rattle.std.specs.Prelude.{map, slice_index}
+use Rattle.std.specs.Prelude.{◌-◌, map, slice_index}
 use Rattle.std.specs.List.{flat_map, list_all, range_with_len}
 use Rattle.std.proofs.Math.Nat.{mod-eq_of_lt}
 use Rattle.std.proofs.lemmas.List.{append-nil, length-map}
+use Rattle.std.proofs.lemmas.List.Folds.{flat_map-map}
 use Rattle.spl_words.specs.Words.{plus}
 use Rattle.spl_words.specs.Folds.{fold_word, fold_words}
+use Rattle.spl_words.specs.declared.secret.KeySpec.{KeySpec}
 use Rattle.spl_words.specs.Secrets.{Secret, secret_tree}
 use Rattle.spl_words.specs.declared.provider.Provider.{Provider}
 use Rattle.spl_words.specs.declared.provider.Provider.TheVariants.{Zero, One}
@@ -20,14 +22,14 @@ use Rattle.query_reader.specs.declared.checked.Checked.{Checked}
 use Rattle.query_reader.specs.Accepted.{IsCheckedFor}
 use Rattle.query_reader.specs.Matching.{matching_rows}
 use Rattle.query_reader.specs.Params.{AreParamsFor}
-use Rattle.count_sum.specs.SumPairs.{sum_pairs}
+use Rattle.count_sum.specs.SumPairs.{joined_key, sum_pairs}
 use Rattle.key_frames.specs.declared.keys.Key.{Key}
 use Rattle.key_frames.specs.Trees.{key_list, key_shares, key_tree}
 use Rattle.key_frames.proofs.TreeLaws.{trees_same}
 use Rattle.private_plan.specs.declared.plans.PlanKind.{PlanKind}
 use Rattle.private_plan.specs.declared.plans.PlanKind.TheVariants as kind
 use Rattle.private_plan.specs.Plans.{IsBuilt, brings_cells, is_built, is_sum, kind_of, last_bits, plan_of, words_back}
-use Rattle.private_plan.specs.Rounds.{Fold, first_round, first_tree, folds_in, secrets_in}
+use Rattle.private_plan.specs.Rounds.{Entries, Fold, by_key, first_round, first_tree, folds_in, secrets_in}
 use Rattle.private_plan.proofs.Accepted.{secrets_laid}
 use Rattle.private_plan.proofs.FirstTrees.{first_deep}
 use Rattle.private_plan.proofs.Telling.{are_points}
@@ -35,11 +37,11 @@ use Rattle.session_model.specs.Answers.{answer_words, entries_of, entry_width, w
 use Rattle.session_model.specs.Cells.{cells_back, each_told, first_answer, rows_back, rows_for, told_rows}
 use Rattle.session_model.proofs.Answers.{answers_add, one_fold}
 use Rattle.session_model.proofs.BackRows.{cells_small, picked_small, sum_rows, told_back, told_picked}
-use Rattle.session_model.proofs.CellSums.{length-cell, same_lengths, word_at, wordwise}
+use Rattle.session_model.proofs.CellSums.{added_at, length-cell, same_lengths, wordwise}
 use Rattle.session_model.proofs.CellWords.{AreWords, word_small, words_both}
 use Rattle.session_model.proofs.KeptRows.{kept_below}
 use Rattle.session_model.proofs.Plans.{built_kinds, cell_folds, folds_are, points_deep, sums_of_kind}
-use Rattle.session_model.proofs.TreeWords.{both_words, by_tree, length-tree_words, length-words, tree_words, trees_add}
+use Rattle.session_model.proofs.TreeWords.{both_words, by_tree, length-tree_words, length-words, points_tell, tree_words, trees_add}
 
 -- ---- words
 
@@ -87,20 +89,29 @@ module _ (checked : Checked) (t : TableParts) (params : List ℕ) (roots : List 
   sum_answer : (e : Meaning) (p : Provider) → the_kind ≡ kind.Sum → first_answer e p checked t params roots ≡ fold_words (key_shares e p 0 (key_list e p 0 asked roots)) (sum_pairs checked t) (cell_width checked.spec)
   sum_answer e p sum = one_fold e p 1 (key_list e p 0 asked roots) checked t sum refl (keys_count e p)
 
+  abbrev by_keys : KeySpec → Entries
+  by_keys tree = by_key (checked.bits - tree.depth)
+
   -- an answer of trees that bring a cell each
-  tree_answer : (e : Meaning) (p : Provider) → brings_cells the_kind ≡ true → first_answer e p checked t params roots ≡ tree_words checked t e p 0 asked roots
+  tree_answer : (e : Meaning) (p : Provider) → brings_cells the_kind ≡ true → first_answer e p checked t params roots ≡ tree_words checked t by_keys e p 0 asked roots
   tree_answer e p brings =
       let keys = key_list e p 0 asked roots in
       folds_answer e p keys checked t valid.shape.schema accepted form brings
-      ∙ (ap (λ ts. flat_map (words_of_fold e p 0 keys checked t) (cell_folds checked.bits ts)) (sym laid) ∙ by_tree checked t e p keys 0 asked roots same refl)
+      ∙ (ap (λ ts. flat_map (words_of_fold e p 0 keys checked t) (cell_folds checked.bits ts)) (sym laid) ∙ by_tree checked t by_keys e p 0 keys 0 0 asked roots refl same refl)
 
   -- ---- how long they are
 
   sum_back : the_kind ≡ kind.Sum → cells_back checked t params ≡ spec_cell (matching_rows checked params t)
   sum_back sum = ap (λ l. flat_map spec_cell l) (sum_rows checked t params sum) ∙ append-nil (spec_cell (matching_rows checked params t))
 
-  tree_back : brings_cells the_kind ≡ true → cells_back checked t params ≡ flat_map spec_cell (each_told checked t params)
-  tree_back brings = ap (λ l. flat_map spec_cell l) (told_back checked t params brings)
+  abbrev told : Secret → List ℕ
+  told s = spec_cell (told_rows checked t s)
+
+  abbrev told_long : (s : Secret) → length (told s) ≡ cell_width checked.spec
+  told_long s = length-cell (adds_in t.shape.schema.columns) checked.spec (told_rows checked t s)
+
+  tree_back : brings_cells the_kind ≡ true → cells_back checked t params ≡ flat_map told asked
+  tree_back brings = ap (λ l. flat_map spec_cell l) (told_back checked t params brings) ∙ flat_map-map spec_cell (told_rows checked t) asked
 
   pub answer_length : (e : Meaning) (p : Provider) → IsBuilt checked t.shape.schema.columns → length (first_answer e p checked t params roots) ≡ length (cells_back checked t params)
   answer_length e p built =
@@ -109,7 +120,7 @@ module _ (checked : Checked) (t : TableParts) (params : List ℕ) (roots : List 
             ap length (sum_answer e p sum)
             ∙ (length-words (fold_word (key_shares e p 0 (key_list e p 0 asked roots)) (sum_pairs checked t)) (cell_width checked.spec)
             ∙ sym (ap length (sum_back sum) ∙ length-cell (adds_in t.shape.schema.columns) checked.spec (matching_rows checked params t)))
-        | inr brings ↦ ap length (tree_answer e p brings) ∙ (length-tree_words checked t e p 0 asked roots same ∙ ap length (sym (tree_back brings)))
+        | inr brings ↦ ap length (tree_answer e p brings) ∙ (length-tree_words checked t by_keys told told_long e p 0 asked roots same ∙ ap length (sym (tree_back brings)))
       ]
 
   -- ---- what they add to
@@ -132,8 +143,9 @@ module _ (checked : Checked) (t : TableParts) (params : List ℕ) (roots : List 
     cells_add : brings_cells the_kind ≡ true → wordwise (first_answer e Zero checked t params roots) (first_answer e One checked t params roots) ≡ cells_back checked t params
     cells_add brings =
         let points = are_points checked t.shape params valid.shape.schema accepted form known brings in
+        let small = λ (s : Secret). picked_small checked t valid accepted (told_rows checked t s) (told_picked checked t (joined_key checked t) checked.bits s) in
         ap₂ wordwise (tree_answer e Zero brings) (tree_answer e One brings)
-        ∙ (trees_add checked t e pure (kept_below checked t valid accepted) (λ s. picked_small checked t valid accepted (told_rows checked t s) (told_picked checked t s)) 0 asked roots same points ∙ sym (tree_back brings))
+        ∙ (trees_add checked t by_keys told told_long e pure 0 asked roots same (points_tell checked t (joined_key checked t) checked.bits (kept_below checked t valid accepted) small asked points) ∙ sym (tree_back brings))
 
     -- word by word they add to the cells that come back
     pub both_add : IsBuilt checked t.shape.schema.columns → wordwise (first_answer e Zero checked t params roots) (first_answer e One checked t params roots) ≡ cells_back checked t params
@@ -145,11 +157,7 @@ module _ (checked : Checked) (t : TableParts) (params : List ℕ) (roots : List 
 
     pub word_added : IsBuilt checked t.shape.schema.columns → (k : ℕ) → k < length (cells_back checked t params)
         → plus (slice_index (first_answer e Zero checked t params roots) k) (slice_index (first_answer e One checked t params roots) k) ≡ slice_index (cells_back checked t params) k
-    word_added built k here =
-        let zero_long = answer_length e Zero built in
-        let one_long = answer_length e One built in
-        sym (word_at (first_answer e Zero checked t params roots) (first_answer e One checked t params roots) k (omega (arith, here, zero_long)) (omega (arith, here, one_long)))
-        ∙ ap (λ l. slice_index l k) (both_add built)
+    word_added built k = added_at (first_answer e Zero checked t params roots) (first_answer e One checked t params roots) (cells_back checked t params) k (answer_length e Zero built) (answer_length e One built) (both_add built)
 
 -- ---- how many words come back
 

@@ -12,7 +12,7 @@ use Rattle.cell_merge.specs.TableRows.{adds_in, row_in}
 use Rattle.cell_merge.specs.declared.spec.CellSpec.{CellSpec}
 use Rattle.cell_merge.proofs.All.{cell_empty}
 use Rattle.cell_merge.proofs.Labels.{Apart-filter, cell_merge}
-use Rattle.cell_merge.proofs.Lists.{length-filter-le}
+use Rattle.cell_merge.proofs.Lists.{each_weaker, length-filter-le}
 use Rattle.aligned_ranges.proofs.TestedCells.{passed_once, passed_where, passes_one, tested_merge, times_passed}
 use Rattle.query_grammar.specs.Canonical.{IsQuery}
 use Rattle.query_reader.specs.declared.checked.Checked.{Checked}
@@ -24,7 +24,7 @@ use Rattle.private_plan.specs.Plans.{IsBuilt, brings_cells, kind_of}
 use Rattle.private_plan.specs.Rounds.{first_round, secrets_in}
 use Rattle.private_plan.specs.Slots.{IsPointOf}
 use Rattle.private_plan.proofs.Telling.{are_points, tell_rows}
-use Rattle.session_model.specs.Cells.{each_told, rows_back, told_rows}
+use Rattle.session_model.specs.Cells.{each_told, rows_back, told_by}
 use Rattle.session_model.proofs.CellSums.{all_right}
 use Rattle.session_model.proofs.BackRows.{sum_rows, told_back}
 use Rattle.session_model.proofs.KeptRows.{each_kept, few_kept, kept_apart}
@@ -43,10 +43,10 @@ one_cell adds spec rows apart few = ap (λ c. merge spec c (cell adds spec rows)
 
 -- ---- how many secrets tell a row
 
-module _ (checked : Checked) (t : TableParts) where
+module _ (checked : Checked) (t : TableParts) (number : Row → ℕ) (bits : ℕ) where
   -- what a secret says of a row
-  abbrev said : Row → Secret → ℕ
-  said r s = secret_value s (joined_key checked t r / 2 ^ (checked.bits - s.depth))
+  abbrev pub said : Row → Secret → ℕ
+  said r s = secret_value s (number r / 2 ^ (bits - s.depth))
 
   abbrev tells : Secret → Row → Bool
   tells s r = eqb (said r s) 1
@@ -57,11 +57,24 @@ module _ (checked : Checked) (t : TableParts) where
   as_bit (suc (suc v)) h = absurd (omega arith)
 
   -- as many as their words add to
-  times_told : (r : Row) (ss : List Secret) → AllByRecursion (IsPointOf checked.bits) ss → times_passed tells ss r ≡ sum_by (said r) ss
+  times_told : (r : Row) (ss : List Secret) → AllByRecursion (IsPointOf bits) ss → times_passed tells ss r ≡ sum_by (said r) ss
   times_told r [] each = refl
   times_told r (s ∷ ss) each =
       sum_by-cons (λ u. cond (tells u r) 1 0) s ss
-      ∙ (ap₂ (λ m n. m + n) (as_bit (said r s) (at_most_one s (joined_key checked t r / 2 ^ (checked.bits - s.depth)) each.0.is_point each.0.once)) (times_told r ss each.1) ∙ sym (sum_by-cons (said r) s ss))
+      ∙ (ap₂ (λ m n. m + n) (as_bit (said r s) (at_most_one s (number r / 2 ^ (bits - s.depth)) each.0.is_point each.0.once)) (times_told r ss each.1) ∙ sym (sum_by-cons (said r) s ss))
+
+  -- where the words of points add to 1 at the rows that pass a test, and to 0 at others, the cells that they tell merge to the cell of the rows that pass
+  pub told_merge : IsTable t → (asked : List Secret) (passes : Row → Bool) → AllByRecursion (IsPointOf bits) asked → AllByRecursion (λ r. sum_by (said r) asked ≡ cond (passes r) 1 0) (kept_rows checked t)
+      → merge_all checked.spec (map (cell (adds_in t.shape.schema.columns) checked.spec) (map (told_by checked t number bits) asked)) ≡ cell (adds_in t.shape.schema.columns) checked.spec (filter passes (kept_rows checked t))
+  told_merge valid asked passes points each =
+      let kept = kept_rows checked t in
+      let the_cell : List Row → List ℕ = cell (adds_in t.shape.schema.columns) checked.spec in
+      let Said : Row → Type 0 = λ r. sum_by (said r) asked ≡ cond (passes r) 1 0 in
+      let once = each_weaker Said (λ r. times_passed tells asked r ≤ 1) (λ r h. passed_once tells asked r (passes r) (times_told r asked points ∙ h)) kept each in
+      let where_passing = each_weaker Said (λ r. passes_one tells asked r ≡ passes r) (λ r h. passed_where tells asked r (passes r) (times_told r asked points ∙ h)) kept each in
+      ap (λ l. merge_all checked.spec l) (map-map the_cell (told_by checked t number bits) asked)
+      ∙ (tested_merge (adds_in t.shape.schema.columns) checked.spec tells kept (kept_apart checked t) (few_kept checked t valid) asked once
+      ∙ ap the_cell (filter_where (passes_one tells asked) passes kept where_passing))
 
 module _ (checked : Checked) (t : TableParts) (params : List ℕ) (valid : IsTable t) (accepted : IsCheckedFor checked t.shape.schema) (form : IsQuery checked.query) (known : AreParamsFor checked t.shape.schema params) where
   abbrev asked : List Secret
@@ -73,25 +86,20 @@ module _ (checked : Checked) (t : TableParts) (params : List ℕ) (valid : IsTab
   abbrev matches : Row → Bool
   matches r = some_branch_holds checked.branches checked.columns checked.range params r
 
-  -- a row that matches is told by one secret, and another by none
-  row_told : brings_cells (kind_of checked t.shape.schema.columns) ≡ true → (n : ℕ) → n < length t.rows → times_passed (tells checked t) asked (row_in t n) ≡ cond (matches (row_in t n)) 1 0
-  row_told brings n h =
-      let schema = valid.shape.schema in
-      let points = are_points checked t.shape params schema accepted form known brings in
-      let key = row_key_same t valid checked.columns n h in
-      times_told checked t (row_in t n) asked points
-      ∙ (ap (λ (x : ℕ). sum_by (λ (s : Secret). secret_value s (x / 2 ^ (checked.bits - s.depth))) asked) key
-      ∙ tell_rows checked t.shape params schema accepted form known brings (row_in t n) (row_codes t valid checked.columns n h))
+  abbrev key_said : Row → Secret → ℕ
+  key_said = said checked t (joined_key checked t) checked.bits
 
-  told_merge : brings_cells (kind_of checked t.shape.schema.columns) ≡ true → merge_all checked.spec (map the_cell (each_told checked t params)) ≡ the_cell (matching_rows checked params t)
-  told_merge brings =
-      let test = tells checked t in
-      let kept = kept_rows checked t in
-      let once = each_kept checked t valid (λ r. times_passed test asked r ≤ 1) (λ n h. passed_once test asked (row_in t n) (matches (row_in t n)) (row_told brings n h)) in
-      let where_matching = each_kept checked t valid (λ r. passes_one test asked r ≡ matches r) (λ n h. passed_where test asked (row_in t n) (matches (row_in t n)) (row_told brings n h)) in
-      ap (λ l. merge_all checked.spec l) (map-map the_cell (told_rows checked t) asked)
-      ∙ (tested_merge (adds_in t.shape.schema.columns) checked.spec test kept (kept_apart checked t) (few_kept checked t valid) asked once
-      ∙ ap the_cell (filter_where (passes_one test asked) matches kept where_matching))
+  -- a row that matches is told by one secret, and another by none
+  row_told : brings_cells (kind_of checked t.shape.schema.columns) ≡ true → (n : ℕ) → n < length t.rows → sum_by (key_said (row_in t n)) asked ≡ cond (matches (row_in t n)) 1 0
+  row_told brings n h =
+      let key = row_key_same t valid checked.columns n h in
+      ap (λ (x : ℕ). sum_by (λ (s : Secret). secret_value s (x / 2 ^ (checked.bits - s.depth))) asked) key
+      ∙ tell_rows checked t.shape params valid.shape.schema accepted form known brings (row_in t n) (row_codes t valid checked.columns n h)
+
+  trees_merge : brings_cells (kind_of checked t.shape.schema.columns) ≡ true → merge_all checked.spec (map the_cell (each_told checked t params)) ≡ the_cell (matching_rows checked params t)
+  trees_merge brings =
+      let points = are_points checked t.shape params valid.shape.schema accepted form known brings in
+      told_merge checked t (joined_key checked t) checked.bits valid asked matches points (each_kept checked t valid (λ r. sum_by (key_said r) asked ≡ cond (matches r) 1 0) (row_told brings))
 
   sum_merge : merge_all checked.spec (the_cell (matching_rows checked params t) ∷ []) ≡ the_cell (matching_rows checked params t)
   sum_merge =
@@ -103,5 +111,5 @@ module _ (checked : Checked) (t : TableParts) (params : List ℕ) (valid : IsTab
   back_merge built =
       elim (built_kinds (kind_of checked t.shape.schema.columns) built) [
         | inl sum ↦ ap (λ l. merge_all checked.spec (map the_cell l)) (sum_rows checked t params sum) ∙ sum_merge
-        | inr brings ↦ ap (λ l. merge_all checked.spec (map the_cell l)) (told_back checked t params brings) ∙ told_merge brings
+        | inr brings ↦ ap (λ l. merge_all checked.spec (map the_cell l)) (told_back checked t params brings) ∙ trees_merge brings
       ]

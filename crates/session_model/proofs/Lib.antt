@@ -2,6 +2,13 @@ pub mod CellSums
 pub mod TableRows
 pub mod KeptRows
 pub mod SumSecrets
+pub mod RowSums
+pub mod Positions
+pub mod PositionSlots
+pub mod CountSecrets
+pub mod CountWords
+pub mod SecondSecrets
+pub mod SecondCells
 pub mod Answers
 pub mod PointCells
 pub mod Told

@@ -21,7 +21,7 @@ module _ (bits : ℕ) where
   point_is None ends = record { secret = record { number = pow_pos bits; word = omega arith }; deep = refl }
   point_is (Some t) ends = record { secret = record { number = omega (arith, ends.0, ends.1); word = omega arith }; deep = refl }
 
-  threshold_is : (alpha beta : ℕ) → alpha < 2 ^ bits → beta < 2 ^ 64 → IsOf bits (threshold bits alpha beta)
+  pub threshold_is : (alpha beta : ℕ) → alpha < 2 ^ bits → beta < 2 ^ 64 → IsOf bits (threshold bits alpha beta)
   threshold_is alpha beta a b = record { secret = record { number = a; word = b }; deep = refl }
 
   below_is : (n : ℕ) → n < 2 ^ bits → IsOf bits (minus_below bits n)

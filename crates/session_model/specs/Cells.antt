@@ -18,9 +18,13 @@ use Rattle.private_plan.specs.Plans.{kind_of}
 use Rattle.private_plan.specs.Rounds.{first_round, secrets_in}
 use Rattle.session_model.specs.Answers.{answer_words}
 
--- the kept rows that a point's secret tells: by the joined key, without as many of its lowest bits as the tree is less deep than the key
+-- the kept rows that a point's secret tells: by a number of so many bits, without as many of its lowest bits as the tree is less deep
+abbrev pub told_by : Checked → TableParts → (Row → ℕ) → ℕ → Secret → List Row
+told_by checked table number bits s = filter (λ r. secret_value s (number r / 2 ^ (bits - s.depth)) == 1) (kept_rows checked table)
+
+-- those that it tells by the joined key
 abbrev pub told_rows : Checked → TableParts → Secret → List Row
-told_rows checked table s = filter (λ r. secret_value s (joined_key checked table r / 2 ^ (checked.bits - s.depth)) == 1) (kept_rows checked table)
+told_rows checked table s = told_by checked table (joined_key checked table) checked.bits s
 
 -- those of each secret of the first round
 abbrev pub each_told : Checked → TableParts → List ℕ → List (List Row)
