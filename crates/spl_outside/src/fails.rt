@@ -2,7 +2,7 @@
 ghost use Rattle.std.specs.Prelude.{◌≡◌, ◌≤◌};
 ghost use Rattle.std.specs.Bool.{OnTrue};
 ghost use Rattle.spl_outside.specs.Causes.{Rose};
-ghost use Rattle.spl_outside.specs.Fails.{Failing, fails_next, after_call, after_fault};
+ghost use Rattle.spl_outside.specs.Fails.{Failing, fails_next, after_call, after_call_alone, after_fault};
 
 use std::marker::Model;
 
@@ -43,6 +43,15 @@ impl Fails {
         ensures later { self.old.faults ≤ self.new.faults }
     {
         self.faults = self.faults.saturating_add(1);
+    }
+
+    /// Counts a call alone; says whether it is to fail.
+    pub fn comes_alone(&mut self) -> bool
+        ensures fails { result ≡ fails_next self.old }
+        ensures counts { self.new ≡ after_call_alone self.old }
+    {
+        self.calls = self.calls.saturating_add(1);
+        self.numbers.contains(&self.calls)
     }
 
     /// Counts a call, and a fault where the call is to fail; says whether it is.

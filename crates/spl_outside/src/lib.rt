@@ -1,4 +1,4 @@
-//! What the program asks of the outside: files, random words and a place to print.
+//! What the program asks of the outside: files, random words, a place to print, and connections.
 //!
 //! Each is a trait that counts its faults. The count rises in the calls that answer `Failed` and in no
 //! others, so a program that stops for a fault can't have made it up, and one that passes over a fault
@@ -12,15 +12,28 @@ ghost use Rattle.spl_outside.specs.Content.{FileMap, ReadsFile, WritesFile, Keep
 
 use std::alloc::Global;
 
+mod connections;
 mod fails;
 mod file_log;
+mod input;
+mod memory_door;
 mod memory_draw;
 mod memory_files;
 mod memory_sink;
+mod queue;
+mod rooms;
+mod script_link;
+mod sizes;
+mod steady_connections;
 
+pub use connections::{Door, Link};
+pub use memory_door::MemoryDoor;
 pub use memory_draw::{MemoryDraw, SteadyDraw};
 pub use memory_files::{MemoryFiles, SteadyFiles};
 pub use memory_sink::{MemorySink, SteadySink};
+pub use script_link::ScriptLink;
+pub use sizes::Sizes;
+pub use steady_connections::{SteadyDoor, SteadyLink};
 
 /// The object failed.
 #[derive(Clone, Copy, Debug, PartialEq, Eq)]
