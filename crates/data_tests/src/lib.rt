@@ -1,6 +1,8 @@
-//! Tests of words, values, tables, fields and the forms in memory.
+//! Tests of words, values, tables, fields, the forms in memory and connections.
 #![tactic(auto)]
 
+#[cfg(test)]
+mod connections;
 #[cfg(test)]
 mod fields;
 #[cfg(test)]

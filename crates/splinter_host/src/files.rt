@@ -107,8 +107,8 @@ fn file_stop_of(kind: ErrorKind) -> FileStop
     }
 }
 
-/// Why a file was not made, so that nothing has changed.
-fn stop_of(kind: ErrorKind) -> Stop
+/// Why a file was not made, or nothing was opened: nothing has changed.
+pub fn stop_of(kind: ErrorKind) -> Stop
     ensures { (result ≡ Stop.OutOfMemory) ↔ (kind ≡ ErrorKind.OutOfMemory) }
 {
     match kind {
