@@ -1,0 +1,4 @@
+pub mod FillSteps
+pub mod SendSteps
+pub mod Splits
+pub mod Telling

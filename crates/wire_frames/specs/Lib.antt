@@ -1,0 +1,5 @@
+pub mod Filling
+pub mod Framing
+pub mod Laws
+pub mod Sending
+pub mod Told
