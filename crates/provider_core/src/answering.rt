@@ -29,7 +29,8 @@ use std::thread::Threads;
 fn bytes_of(frame: &AnswerFrame, room: Vec<u8>) -> Vec<u8>
     requires allowed { Allowed frame.now }
     requires room { vec_len room ≡ 123 + 8 * length frame.now.words }
-    ensures { result.items ≡ spelling frame.now }
+    ensures bytes { result.items ≡ spelling frame.now }
+    ensures short { length result.items ≤ 524411 }
 {
     let mut bytes = room;
     fill_answer(frame, &mut bytes);
@@ -73,7 +74,8 @@ fn reply<T: Threads + Sync, E: Expander + Sync, G: Gate + Sync>(
 ) -> Result<Vec<u8>, AllocError>
     requires asked { IsRequest bytes.now table.now asked.now }
     requires workers { (1 ≤ workers) × (workers ≤ 64) }
-    ensures { IfOk result (λ v. v.items ≡ answer_bytes (E.meaning expander.now) provider bytes.now asked.now.frame asked.now.checked table.now) }
+    ensures bytes { IfOk result (λ v. v.items ≡ answer_bytes (E.meaning expander.now) provider bytes.now asked.now.frame asked.now.checked table.now) }
+    ensures short { IfOk result (λ v. length v.items ≤ 524411) }
 {
     // What a table and an accepted query keep.
     let _ = table.shape();
@@ -128,6 +130,8 @@ pub fn answer<T: Threads + Sync, E: Expander + Sync, G: Gate + Sync>(
     requires { (1 ≤ workers) × (workers ≤ 64) }
     // The frame's answer, or the first refusal, unless memory runs out.
     ensures gives { Gives OutOfMemory (λ v. v.items) result (answered (E.meaning expander.now) provider frame.now table.now) }
+    // No answer has more bytes than one of 65,536 words.
+    ensures short { IfOk result (λ v. length v.items ≤ 524411) }
     // No fault in a refusal is want of memory.
     ensures memory { IfErr result OwnsMemory }
 {
