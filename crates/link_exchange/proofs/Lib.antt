@@ -1,0 +1,2 @@
+pub mod ReplySteps
+pub mod RoundSteps
