@@ -35,10 +35,18 @@ abbrev pub SentOf : List ℕ → Result Bodies RoundFault → List ℕ → List 
 SentOf frame (Ok _) before now = now ≡ before ++ framed frame
 SentOf frame (Err _) before now = (k : ℕ) × (now ≡ before ++ take k (framed frame))
 
+-- what the end of a link's bytes says of those taken on a side, and of those that it left due: on its own side they
+-- ended inside a reply; a reply was taken left before the right one was begun
+abbrev pub EndedSays : Side → Side → ℕ → ℕ → List ℕ → List ℕ → Type 0
+EndedSays side_of.Left side_of.Left had needed taken due = EndsInside longest_body taken had needed × (due ≡ [])
+EndedSays side_of.Left side_of.Right had needed taken due = (b : Body) × IsReply taken b
+EndedSays side_of.Right side_of.Left had needed taken due = taken ≡ []
+EndedSays side_of.Right side_of.Right had needed taken due = EndsInside longest_body taken had needed × (due ≡ [])
+
 -- what a round says of the bytes that it took on a side, and of those that it left due
 abbrev pub SaysOf : Side → Result Bodies RoundFault → List ℕ → List ℕ → Type 0
 SaysOf side (Ok bodies) taken due = IsReply taken (body_on side bodies)
-SaysOf side (Err (fault.LinkEnded s had needed)) taken due = s ≡ side → EndsInside longest_body taken had needed × (due ≡ [])
+SaysOf side (Err (fault.LinkEnded ended had needed)) taken due = EndedSays side ended had needed taken due
 SaysOf side (Err _) taken due = Unit {0}
 
 -- one side of a round: the bytes that came due in it, and those that were taken

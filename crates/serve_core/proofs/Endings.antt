@@ -1,11 +1,11 @@
 -- An input has one end.
-use Rattle.std.proofs.Common.{◌≡◌, ◌⊎◌, ℕ, ◌≤◌, ◌<◌, ◌^◌, List, [], ◌∷◌, ◌++◌, length, map, All, refl, sym, ap, subst, ◌∙◌, arith, inl, inr}
+use Rattle.std.proofs.Common.{◌≡◌, ◌⊎◌, ℕ, ◌≤◌, ◌<◌, ◌^◌, List, [], ◌∷◌, ◌++◌, length, All, refl, sym, ap, subst, ◌∙◌, arith, inl, inr}
 use Rattle.std.proofs.lemmas.List.{length-map}
 use Rattle.std.proofs.lemmas.List.Elements.{All-head, All-tail, All-cons, All-nil}
 use Rattle.wire_frames.specs.Framing.{framed, all_framed, longest_request, BeginsTooLong}
 use Rattle.wire_frames.specs.Laws.{AreShort, GoesOn}
 use Rattle.wire_frames.proofs.Splits.{four_more, frames_are_read_once, none_does_not_go_on, part_does_not_go_on, too_long_does_not_go_on, too_long_is_no_part, part_is_one, too_long_is_one}
-use Rattle.serve_core.specs.Serving.{Exchange, IsExchange, requests, EndsBy, Serves}
+use Rattle.serve_core.specs.Serving.{Exchange, IsExchange, requests, EndsBy}
 use Rattle.serve_core.specs.Laws.{IsWhole, frames}
 use Rattle.serve_core.specs.Laws as law
 use Rattle.serve_core.specs.declared.end.ServeEnd.{ServeEnd}

@@ -15,7 +15,7 @@ use Rattle.serve_core.specs.declared.end.ServeEnd.{ServeEnd}
 use Rattle.serve_core.specs.declared.end.ServeEnd.TheVariants as end
 use Rattle.serve_core.specs.declared.serving.Taken.TheVariants as taken
 use Rattle.serve_core.specs.Replies.{RepliesAt}
-use Rattle.serve_core.specs.Serving.{Exchange, IsExchange, requests, replies, too_long_reply, IsLast, EndsBy, SentBy, LeftBy, ServesAt}
+use Rattle.serve_core.specs.Serving.{Exchange, IsExchange, requests, replies, too_long_reply, EndsBy, SentBy, LeftBy, ServesAt}
 use Rattle.serve_core.specs.Taking.{TakesRequestAt, end_of, AnswersOne, OneAt}
 
 pub none_good : (reply : List ℕ → List ℕ) → All (IsExchange reply) []

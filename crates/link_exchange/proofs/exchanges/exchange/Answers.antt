@@ -5,7 +5,7 @@ use Rattle.wire_frames.proofs.Telling.{told_start, told_weaker, told_through}
 use Rattle.link_exchange.specs.declared.exchanges.Side.TheVariants as side_of
 use Rattle.link_exchange.specs.Asking.{send_fault, take_fault, Asked}
 use Rattle.link_exchange.specs.Replying.{TakesReply}
-use Rattle.link_exchange.proofs.RoundSteps.{silent_send, silent_take, taken_says, asked_nothing, asked_sent, asked_failed}
+use Rattle.link_exchange.proofs.RoundSteps.{silent_send, silent_take, taken_says, left_says, asked_nothing, asked_sent, asked_failed}
 use Rattle.link_exchange.proofs.exchanges.exchange.Goals as goal
 
 pub returns-in-Err-clause-right : goal.returns-in-Err-clause-right
@@ -44,7 +44,7 @@ returns-in-Err-take_reply-clause-right g c =
     told_weaker _ _
     (SendsFrame c.args.to_right.now (Ok c.in-Ok-send_over_link.field-0))
     (Asked side_of.Right c.args.to_right.now (Err (take_fault side_of.Left c.in-Err-take_reply.stop)))
-    (λ w n p. asked_sent side_of.Right c.args.to_right.now (Ok c.in-Ok-send_over_link.field-0) (take_fault side_of.Left c.in-Err-take_reply.stop) w n (silent_take side_of.Right side_of.Left c.in-Err-take_reply.stop (λ same. cc)) p)
+    (λ w n p. asked_sent side_of.Right c.args.to_right.now (Ok c.in-Ok-send_over_link.field-0) (take_fault side_of.Left c.in-Err-take_reply.stop) w n (silent_take c.in-Err-take_reply.stop) p)
     c.in-Ok-send_over_link.ensures.told
     )
 
@@ -55,7 +55,7 @@ returns-in-Err-take_reply-2-clause-left g c =
     (SendsFrame c.args.to_left.now (Ok c.in-Ok.field-0))
     (TakesReply (Ok c.in-Ok-take_reply.body))
     (Asked side_of.Left c.args.to_left.now (Err (take_fault side_of.Right c.in-Err-take_reply-2.stop)))
-    (λ w m n p q. asked_failed side_of.Left c.args.to_left.now c.in-Ok.field-0 (Ok c.in-Ok-take_reply.body) (take_fault side_of.Right c.in-Err-take_reply-2.stop) w m n p q (silent_take side_of.Left side_of.Right c.in-Err-take_reply-2.stop (λ same. cc) q.taken n.due))
+    (λ w m n p q. asked_failed side_of.Left c.args.to_left.now c.in-Ok.field-0 (Ok c.in-Ok-take_reply.body) (take_fault side_of.Right c.in-Err-take_reply-2.stop) w m n p q (left_says c.in-Err-take_reply-2.stop c.in-Ok-take_reply.body m n q))
     c.in-Ok.ensures.told
     c.in-Ok-take_reply.ensures.told
     )

@@ -1,4 +1,4 @@
-use Rattle.std.proofs.Common.{length, ◌≡◌, ◌≤◌}
+use Rattle.std.proofs.Common.{length, ◌≡◌}
 use Rattle.wire_frames.specs.Told.{Told}
 use Rattle.serve_core.specs.Replies.{body_to}
 use Rattle.serve_core.proofs.ServeSteps.{Served}
