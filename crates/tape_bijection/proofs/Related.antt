@@ -9,7 +9,7 @@ use Rattle.seed_expansion.specs.declared.nodes.Block.{Block}
 use Rattle.seed_expansion.specs.declared.nodes.Correction.{Correction}
 use Rattle.spl_words.specs.Secrets.{Secret}
 use Rattle.seed_expansion.specs.Expanders.{Meaning, IsTape}
-use Rattle.seed_expansion.specs.Leaves.{last_of, last_word}
+use Rattle.seed_expansion.specs.Leaves.{last_word}
 use Rattle.seed_expansion.specs.Walk.{differ, child, bit_at, corrected_bit_at, correction, correction_of, node, path, place, side, prefix}
 use Rattle.tape_bijection.specs.Moves.{moved, moved_word, kept_bit}
 use Rattle.seed_expansion.proofs.Steps.{xor_first, xor_second}
@@ -111,15 +111,6 @@ module _ (e : Meaning) (tape : IsTape e) (tree : ℕ) (s : Secret) where
       ap₂ (correction (side s.depth s.alpha i))
       (tape.blocks (place tree Zero s.depth s.alpha i) m.0.seed n.0.seed)
       (tape.blocks (place tree One s.depth s.alpha i) m.1.seed n.1.seed)
-
-  pub same_last : (m n : Node × Node) → m.0.bit ≡ n.0.bit → m.1.bit ≡ n.1.bit → last_of e tree s s.depth m ≡ last_of e tree s s.depth n
-  unfolding last_of
-  same_last m n a b =
-      let pl0 = place tree Zero s.depth s.alpha s.depth in
-      let pl1 = place tree One s.depth s.alpha s.depth in
-      ap (λ t. last_word s.beta t m.1.bit (e.leaf pl0 m.0.seed) (e.leaf pl1 m.1.seed)) a
-      ∙ ap (λ t. last_word s.beta n.0.bit t (e.leaf pl0 m.0.seed) (e.leaf pl1 m.1.seed)) b
-      ∙ ap₂ (last_word s.beta n.0.bit n.1.bit) (tape.leaves pl0 m.0.seed n.0.seed) (tape.leaves pl1 m.1.seed n.1.seed)
 
 -- the bit of provider p's child on the side of x, over a tape
 abbrev pub tape_step : Meaning → Provider → ℕ → ℕ → ℕ → ℕ → Correction → Bool → Bool
