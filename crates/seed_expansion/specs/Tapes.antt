@@ -1,5 +1,6 @@
 -- Tapes: a block and a leaf word for each place, drawn without a seed.
-use Rattle.std.specs.Prelude.{ℕ, ◌<◌, ◌^◌, Bool, false, List, Option, Some, None}
+use Rattle.std.specs.Prelude.{ℕ, ◌<◌, ◌^◌, Bool, false, ◌||◌, List, Option, Some, None, is_some}
+use Rattle.std.specs.List.{list_any}
 use Rattle.std.specs.declared.cmp.Ordering.{Ordering}
 use Rattle.std.specs.Map.{lookup}
 use Rattle.std.specs.BTreeMap.{is_at}
@@ -25,6 +26,14 @@ block_at t q = lookup (is_at (place_cmp q)) t.blocks
 -- the leaf word that is set there
 abbrev pub leaf_at : Entries → Place → Option ℕ
 leaf_at t q = lookup (is_at (place_cmp q)) t.leaves
+
+-- whether a tape has a block or a leaf word at a place
+abbrev pub is_set : Entries → Place → Bool
+is_set t q = is_some (block_at t q) || is_some (leaf_at t q)
+
+-- whether a place stands in a list of places
+abbrev pub has_place : List Place → Place → Bool
+has_place places q = list_any (is_at (place_cmp q)) places
 
 -- a block of zeros
 abbrev pub no_block : Block

@@ -7,6 +7,7 @@ pub mod laws;
 mod level;
 mod nodes;
 mod tape;
+mod tape_places;
 mod toy;
 mod words;
 
@@ -17,6 +18,7 @@ pub use chacha::ChaChaExpander;
 pub use level::{child_of, correction_for, goes_right, place_of, root_of};
 pub use nodes::{Block, Correction, Node, Place};
 pub use tape::{Tape, TapeExpander};
+pub use tape_places::TapePlaces;
 pub use toy::ToyExpander;
 pub use words::{last_word, leaf_share, word_of};
 

@@ -1,11 +1,13 @@
 //! Tapes: what is drawn freshly for each place, in place of what a seed expands to.
 ghost use Rattle.std.specs.Prelude.{◌≡◌, ◌≢◌, OnOk, OnErr, IfOk, Some, None};
-ghost use Rattle.seed_expansion.specs.Tapes.{HasWords, block_at, leaf_at, tape_meaning};
+ghost use Rattle.std.specs.List.Sorted.{IsStrictlySortedBy};
+ghost use Rattle.seed_expansion.specs.Tapes.{HasWords, block_at, has_place, is_set, leaf_at, place_cmp, tape_meaning};
 
 use crate::Expander;
 use crate::nodes::{Block, Place};
+use crate::tape_places::{TapePlaces, add_places, listed};
 use std::alloc::{AllocError, Global};
-use std::collections::BTreeMap;
+use std::collections::{BTreeMap, BTreeSet};
 use std::marker::Model;
 
 /// Blocks and leaf words that are set at places.
@@ -73,6 +75,22 @@ impl Tape {
         ensures { result ≡ leaf_at self.now place }
     {
         self.leaves.get(&place).copied()
+    }
+
+    /// The places that have a block or a leaf word, each once, by rising tree, provider, level and
+    /// prefix.
+    ///
+    /// # Errors
+    ///
+    /// Only for want of memory.
+    pub fn set_places(&self, alloc: Global) -> Result<TapePlaces, AllocError>
+        ensures rising { IfOk result (λ places. IsStrictlySortedBy place_cmp places) }
+        ensures set { IfOk result (λ places. (q : Place) → has_place places q ≡ is_set self.now q) }
+    {
+        let mut places = BTreeSet::new(alloc);
+        add_places(&mut places, &self.blocks)?;
+        add_places(&mut places, &self.leaves)?;
+        Ok(TapePlaces::from_vec(listed(alloc, &places)?))
     }
 
     /// The words of a tape are below 2^64. It does nothing: its clause says so of the value, which a

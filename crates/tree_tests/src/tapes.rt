@@ -267,3 +267,18 @@ fn read_blank(alloc: Global) -> Result<(u128, u64), AllocError> {
 fn blank_tape_reads_zeros(rt: HostRuntime) {
     assert_eq!(rt; read_blank(rt.alloc()), Ok((0, 0)));
 }
+
+/// Whether the places of the point row's tape are those of both trees, in their order.
+fn lists_places(alloc: Global) -> Result<bool, AllocError> {
+    let tape = drawn(alloc, &POINT)?;
+    let places = tape.set_places(alloc)?;
+    let want = [
+        ZERO_ROOT, ZERO_LEFT, ZERO_RIGHT, ONE_ROOT, ONE_LEFT, ONE_RIGHT,
+    ];
+    Ok(places.as_slice() == want.as_slice())
+}
+
+#[test]
+fn places_rise(rt: HostRuntime) {
+    assert_eq!(rt; lists_places(rt.alloc()), Ok(true));
+}
