@@ -1,6 +1,7 @@
 -- One tree more is mapped.
-use Rattle.std.proofs.Common.{◌≡◌, ℕ, ◌+◌, Bool, true, false, cond, ◌&&◌, ◌||◌, List, get_or, eqb, ltb, refl, sym, ap, ◌∙◌, arith}
+use Rattle.std.proofs.Common.{◌≡◌, ℕ, ◌+◌, Bool, true, false, cond, ◌&&◌, ◌||◌, List, get_or, length, eqb, ltb, refl, sym, ap, ap₂, ◌∙◌, arith}
 use Rattle.std.specs.Prelude.{is_some}
+use Rattle.std.proofs.Math.Path.{fun_ext}
 use Rattle.std.proofs.lemmas.Bool.{eqb-true}
 use Rattle.std.proofs.lemmas.Bool.Decides.{nat_tests}
 use Rattle.spl_words.specs.Words.{other}
@@ -9,10 +10,11 @@ use Rattle.seed_expansion.specs.Expanders.{Meaning}
 use Rattle.seed_expansion.specs.Tapes.{Entries, block_at, leaf_at, tape_meaning}
 use Rattle.tape_bijection.specs.Entered.{has_block_after, has_leaf_after, has_block_in, has_leaf_in}
 use Rattle.tape_bijection.specs.Mapped.{along, exchanged, is_block_place, is_leaf_place, mapped_blocks, mapped_leaves, on_path, same_provider}
-use Rattle.tape_bijection.specs.MappedLists.{mapped_tree, mapped_trees, no_secret}
+use Rattle.tape_bijection.specs.MappedLists.{mapped_list, mapped_tree, mapped_trees, no_secret}
 use Rattle.tape_bijection.specs.Moves.{moved_block, moved_leaf}
 use Rattle.spl_words.specs.declared.provider.Provider.{Provider}
 use Rattle.seed_expansion.specs.declared.nodes.Place.{Place}
+use Rattle.seed_expansion.specs.declared.nodes.Block.{Block}
 use Rattle.tape_bijection.proofs.Agree.{Agree, mapped_agree}
 use Rattle.tape_bijection.proofs.MapStep.{split}
 
@@ -60,6 +62,13 @@ module _ (old t : Entries) (p : Provider) (from to : List Secret) (n : ℕ) wher
     pub leaves : (q : Place) (seed : ℕ) → (tape_meaning t).leaf q seed ≡ (mapped_trees n (tape_meaning old) p from to).leaf q seed
     pub block_entries : (q : Place) → is_some (block_at t q) ≡ has_block_in n old p from to q
     pub leaf_entries : (q : Place) → is_some (leaf_at t q) ≡ has_leaf_in n old p from to q
+
+  -- all trees are mapped
+  pub all_mapped : n ≡ length from → Before → tape_meaning t ≡ mapped_list (tape_meaning old) p from to
+  all_mapped end before =
+      let make : (Place → ℕ → Block) → (Place → ℕ → ℕ) → Meaning = λ b w. record { block = b; leaf = w } in
+      ap₂ make (fun_ext (λ q. fun_ext (λ seed. before.blocks q seed))) (fun_ext (λ q. fun_ext (λ seed. before.leaves q seed)))
+      ∙ ap (λ k. mapped_trees k (tape_meaning old) p from to) end
 
   module _ (before : Before) where
     itself : ltb n n ≡ false

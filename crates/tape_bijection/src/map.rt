@@ -1,7 +1,8 @@
 //! The map of all trees of two lists of secrets.
-ghost use Rattle.std.specs.Prelude.{◌≡◌, ◌≤◌, ◌^◌, OnOk, length, is_some};
+ghost use Rattle.std.specs.Prelude.{◌≡◌, ◌≤◌, ◌^◌, ℕ, List, OnOk, drop, length, is_some};
 ghost use Rattle.seed_expansion.specs.declared.nodes.Place.{Place};
 ghost use Rattle.seed_expansion.specs.Tapes.{block_at, leaf_at, tape_meaning};
+ghost use Rattle.key_frames.specs.Trees.{key_list};
 ghost use Rattle.tape_bijection.specs.MappedLists.{SameTrees, mapped_list};
 ghost use Rattle.tape_bijection.specs.Entered.{has_block_in, has_leaf_in};
 
@@ -27,6 +28,9 @@ pub fn map_tape(
     requires count { length from.now ≤ 2 ^ 32 }
     requires trees { SameTrees from.now to.now }
     ensures mapped { OnOk result (tape_meaning tape.new ≡ mapped_list (tape_meaning tape.old) provider from.now to.now) }
+    // The provider's keys are the same, from the tree of any number on.
+    ensures keys { OnOk result ((n : ℕ) (roots : List (ℕ × ℕ)) → key_list (tape_meaning tape.new) provider n (drop n to.now) roots ≡ key_list (tape_meaning tape.old) provider n (drop n from.now) roots) }
+    // An entry stands where one stood, and at the other provider's places on both paths of each tree.
     ensures blocks { OnOk result ((q : Place) → is_some (block_at tape.new q) ≡ has_block_in (length from.now) tape.old provider from.now to.now q) }
     ensures leaves { OnOk result ((q : Place) → is_some (leaf_at tape.new q) ≡ has_leaf_in (length from.now) tape.old provider from.now to.now q) }
 {

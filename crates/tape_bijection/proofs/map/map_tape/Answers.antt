@@ -1,10 +1,14 @@
-use Rattle.std.proofs.Common.{◌≡◌, ◌<◌, length, get_or, sym, ap, ap₂, ◌∙◌, arith}
+use Rattle.std.proofs.Common.{◌≡◌, ◌<◌, length, get_or, refl, sym, ap, ap₂, ◌∙◌, arith}
 use Rattle.std.proofs.lemmas.List.{get_or_default}
+use Rattle.std.specs.Prelude.{drop}
 use Rattle.spl_words.specs.Secrets.{Secret}
+use Rattle.seed_expansion.specs.Expanders.{Meaning, IsTape}
 use Rattle.seed_expansion.specs.Tapes.{tape_meaning}
+use Rattle.key_frames.specs.Trees.{key_list}
 use Rattle.tape_bijection.specs.Entered.{has_block_after, has_leaf_after}
 use Rattle.tape_bijection.specs.MappedLists.{mapped_tree, no_secret}
-use Rattle.tape_bijection.proofs.MapTrees.{tree_block_entries, tree_blocks, tree_leaf_entries, tree_leaves}
+use Rattle.tape_bijection.proofs.MapTrees.{all_mapped, tree_block_entries, tree_blocks, tree_leaf_entries, tree_leaves}
+use Rattle.tape_bijection.proofs.MappedLaws.{same_keys}
 use Rattle.tape_bijection.proofs.SameTrees.{same_length, same_tree}
 use Rattle.tape_bijection.proofs.map.map_tape.Goals as goal
 
@@ -41,3 +45,16 @@ loop-tree-preserved c =
       block_entries = λ q. c.in_ok-map_tree.ensures.block_entries q ∙ ap₂ (λ (v w : Secret). has_block_after v.depth t p k v w q) one two ∙ tree_block_entries old t p from to k before q;
       leaf_entries = λ q. c.in_ok-map_tree.ensures.leaf_entries q ∙ ap₂ (λ (v w : Secret). has_leaf_after t p k v w q) one two ∙ tree_leaf_entries old t p from to k before q;
     }
+
+pub returns-clause-mapped : goal.returns-clause-mapped
+returns-clause-mapped c = all_mapped c.args.tape.now c.loop-tree.tape c.args.provider c.args.from.now c.args.to.now c.loop-tree.tree (omega arith) c.loop-tree.invariant
+
+pub returns-clause-keys : goal.returns-clause-keys
+returns-clause-keys c =
+    let old = c.args.tape.now in
+    let from = c.args.from.now in
+    let to = c.args.to.now in
+    let p = c.args.provider in
+    let made = all_mapped old c.loop-tree.tape p from to c.loop-tree.tree (omega arith) c.loop-tree.invariant in
+    let tape : IsTape (tape_meaning old) = record { blocks = λ q x y. refl; leaves = λ q x y. refl } in
+    λ n roots. ap (λ (m : Meaning). key_list m p n (drop n to) roots) made ∙ same_keys (tape_meaning old) p from to tape c.requires.trees n roots
