@@ -13,6 +13,6 @@ mod slots;
 pub use eval::ThresholdEval;
 pub use interval::{Interval, interval_secrets};
 pub use keys::{ThresholdKey, ThresholdLevel, ThresholdLevels};
-pub use make::make_threshold;
-pub use share::threshold_share;
+pub use make::{level_for, make_threshold, target_of};
+pub use share::{level_word_of, threshold_share};
 pub use slots::normalise_intervals;

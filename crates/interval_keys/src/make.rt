@@ -71,7 +71,7 @@ pub fn make_threshold<E: Expander>(
 /// The level of both keys where `alpha` goes to the right, or to the left, from the bits and the
 /// blocks of `Zero` and of `One` there.
 #[tactic(auto, unfolding(crate::specs::Thresholds::level_between))]
-fn level_for(
+pub fn level_for(
     keep_right: bool,
     beta: u64,
     bits: (bool, bool),
@@ -91,7 +91,7 @@ fn level_for(
 
 /// What the two terms of a level add to on a side. To the left of `alpha`, and only there, they add
 /// to `beta`.
-fn target_of(keep_right: bool, beta: u64, right: bool) -> u64
+pub fn target_of(keep_right: bool, beta: u64, right: bool) -> u64
     ensures { result ≡ target keep_right beta right }
 {
     if keep_right && !right { beta } else { 0 }

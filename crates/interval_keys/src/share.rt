@@ -38,7 +38,7 @@ pub fn threshold_share<E: Expander>(
 }
 
 /// A level's word on one side.
-fn level_word_of(right: bool, row: &ThresholdLevel) -> u64
+pub fn level_word_of(right: bool, row: &ThresholdLevel) -> u64
     ensures { result ≡ level_word_at right row.now }
 {
     if right { row.word_r } else { row.word_l }

@@ -2,3 +2,4 @@ pub mod Bits
 pub mod Steps
 pub mod Walk
 pub mod Leaves
+mod TapeWords

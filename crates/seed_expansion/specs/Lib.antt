@@ -4,3 +4,4 @@ pub mod Leaves
 pub mod Toy
 pub mod ChaChaExpansion
 pub mod Reading
+pub mod Tapes

@@ -6,6 +6,8 @@ mod chacha;
 pub mod laws;
 mod level;
 mod nodes;
+mod tape;
+mod tape_places;
 mod toy;
 mod words;
 
@@ -15,6 +17,8 @@ ghost use Rattle.seed_expansion.specs.Expanders.{Meaning};
 pub use chacha::ChaChaExpander;
 pub use level::{child_of, correction_for, goes_right, place_of, root_of};
 pub use nodes::{Block, Correction, Node, Place};
+pub use tape::{Tape, TapeExpander};
+pub use tape_places::TapePlaces;
 pub use toy::ToyExpander;
 pub use words::{last_word, leaf_share, word_of};
 

@@ -24,4 +24,6 @@ mod row_entries;
 #[cfg(test)]
 mod runs;
 #[cfg(test)]
+mod tapes;
+#[cfg(test)]
 mod thresholds;

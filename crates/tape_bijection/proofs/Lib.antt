@@ -1,0 +1,13 @@
+mod Related
+mod MappedAt
+mod SameKeys
+mod TreeKeys
+mod OneToOne
+mod Agree
+mod SameTrees
+mod MappedWords
+mod MappedLaws
+mod MapStep
+mod MapLevel
+mod MapEnd
+mod MapTrees

@@ -1,0 +1,4 @@
+pub mod Moves
+pub mod Mapped
+pub mod MappedLists
+pub mod Entered
