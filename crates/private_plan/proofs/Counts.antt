@@ -61,12 +61,16 @@ found_low : (p : ℕ → Bool) (a n : ℕ) → a + n ≤ 19 → unwrap_or (find 
 found_low p a zero low = omega arith
 found_low p a (suc n) low = chosen (p a) a (find p (range_with_len (a + 1) n)) (omega (arith, low)) (found_low p (a + 1) n (omega (arith, low)))
 
+-- a position has at most 18 bits
+pub bits_most : (rows : ℕ) → position_bits rows ≤ 18
+bits_most rows = found_low (λ q. nat_le rows (2 ^ q)) 1 18 (omega arith)
+
 -- and for at most 36 in the second
 pub second_few : (k : PlanKind) (rows : ℕ) → length (second_trees k rows) ≤ 36
 second_few kind.Sum rows = omega arith
 second_few kind.Point rows = omega arith
 second_few kind.Aligned rows = omega arith
-second_few kind.Position rows = let low = found_low (λ q. nat_le rows (2 ^ q)) 1 18 (omega arith) in omega (arith, length-levels (position_bits rows) (position_bits rows), low)
+second_few kind.Position rows = let low = bits_most rows in omega (arith, length-levels (position_bits rows) (position_bits rows), low)
 
 -- 8 slots ask for no more than a frame has room for
 pub slots_few : (slots : ℕ) (trees all : List KeySpec) → slots ≤ 8 → length trees ≤ 36 → all ≡ for_each_slot slots trees → length all ≤ 512

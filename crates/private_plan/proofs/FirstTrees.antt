@@ -61,19 +61,19 @@ module _ (n w : ℕ) (some : 1 ≤ n) (inside : w ≤ n) where
   slot_deep kind.Aligned range = levels_deep 0 w (omega (arith, inside))
   slot_deep kind.Position range = thresholds_deep
 
-  slots_deep : (k : PlanKind) (range : Bool) (is : List ℕ) → AllByRecursion (HasDepth n) (flat_map (λ i. slot_trees k range n w) is)
+  pub slots_deep : (k : PlanKind) (range : Bool) (is : List ℕ) → AllByRecursion (HasDepth n) (flat_map (λ i. slot_trees k range n w) is)
   slots_deep k range [] = tt
   slots_deep k range (i ∷ is) = each-append (HasDepth n) (slot_trees k range n w) (flat_map (λ j. slot_trees k range n w) is) (slot_deep k range) (slots_deep k range is)
 
   -- the first tree of a slot has all bits
-  slot_first : (k : PlanKind) (range : Bool) → 1 ≤ w → first_depth (slot_trees k range n w) ≡ n
+  pub slot_first : (k : PlanKind) (range : Bool) → 1 ≤ w → first_depth (slot_trees k range n w) ≡ n
   slot_first kind.Sum false wide = refl
   slot_first kind.Sum true wide = refl
   slot_first kind.Point range wide = refl
   slot_first kind.Aligned range wide = let e : w ≡ suc (w - 1) = omega (arith, wide) in rw e (omega arith)
   slot_first kind.Position range wide = refl
 
-  slot_some : (k : PlanKind) (range : Bool) → (k ≡ kind.Aligned → 1 ≤ w) → 1 ≤ length (slot_trees k range n w)
+  pub slot_some : (k : PlanKind) (range : Bool) → (k ≡ kind.Aligned → 1 ≤ w) → 1 ≤ length (slot_trees k range n w)
   slot_some kind.Sum false wide = omega arith
   slot_some kind.Sum true wide = omega arith
   slot_some kind.Point range wide = omega arith
@@ -110,7 +110,7 @@ narrow_kind false true w is = by_test (nat_le w 16) refl is where
 
 -- ---- how many
 
-times_some : (a b : ℕ) → 1 ≤ a → 1 ≤ b → 1 ≤ a * b
+pub times_some : (a b : ℕ) → 1 ≤ a → 1 ≤ b → 1 ≤ a * b
 times_some (suc a) (suc b) h i = omega arith
 times_some zero b h i = absurd (omega arith)
 times_some (suc a) zero h i = absurd (omega arith)
@@ -118,11 +118,11 @@ times_some (suc a) zero h i = absurd (omega arith)
 times_most : (a b : ℕ) → a ≤ 8 → b ≤ 32 → a * b ≤ 256
 times_most a b h i = let one : a * b ≤ 8 * b = mul-le-mul_right b h in omega (arith, one, i)
 
-of_trees : (n : ℕ) (secrets : List Secret) → AllByRecursion (HasDepth n) (map secret_tree secrets) → AllByRecursion (λ s. HasDepth n (secret_tree s)) secrets
+pub of_trees : (n : ℕ) (secrets : List Secret) → AllByRecursion (HasDepth n) (map secret_tree secrets) → AllByRecursion (λ s. HasDepth n (secret_tree s)) secrets
 of_trees n [] h = tt
 of_trees n (s ∷ ss) h = (h.0, of_trees n ss h.1)
 
-one_slot : (trees : List KeySpec) (m : ℕ) → 1 ≤ length trees → 1 ≤ m → first_depth (flat_map (λ (i : ℕ). trees) (range_with_len 0 m)) ≡ first_depth trees
+pub one_slot : (trees : List KeySpec) (m : ℕ) → 1 ≤ length trees → 1 ≤ m → first_depth (flat_map (λ (i : ℕ). trees) (range_with_len 0 m)) ≡ first_depth trees
 one_slot trees zero some slots = absurd (omega (arith, slots))
 one_slot trees (suc m) some slots = first_of_both trees (flat_map (λ (i : ℕ). trees) (range_with_len 1 m)) some
 

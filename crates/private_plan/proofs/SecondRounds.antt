@@ -1,22 +1,29 @@
 -- The secrets of a second round: their trees, and what they tell of positions.
-use Rattle.std.proofs.Common.{◌≡◌, ℕ, zero, suc, ◌*◌, ◌≤◌, Bool, true, false, cond, nat_lt, nat_le, List, [], ◌∷◌, length, map, Ok, Option, refl, ap, ◌∙◌, arith, IfSome, if◌then◌else◌}
+use Rattle.std.proofs.Common.{◌≡◌, ℕ, zero, suc, ◌*◌, ◌≤◌, Bool, true, false, cond, nat_lt, nat_le, List, [], ◌∷◌, length, map, Ok, Option, refl, sym, ap, subst, ◌∙◌, arith, IfSome, if◌then◌else◌}
 use Rattle.std.specs.Prelude.{sum_by}
 use Rattle.std.specs.List.{AllByRecursion, flat_map, range_with_len}
 use Rattle.std.proofs.lemmas.Bool.Decides.{nat_tests}
-use Rattle.spl_words.specs.Secrets.{secret_tree, secret_value}
+use Rattle.std.proofs.lemmas.List.{length-map}
+use Rattle.std.proofs.Math.Nat.{mul-le-mul_right}
+use Rattle.spl_words.specs.declared.secret.KeySpec.{KeySpec}
+use Rattle.spl_words.specs.Secrets.{Secret, secret_tree, secret_value}
 use Rattle.spl_values.specs.Shapes.{ShapeParts}
 use Rattle.interval_keys.specs.Intervals.{Span, slot_value, threshold}
 use Rattle.cell_merge.specs.Cells.{cell_width}
+use Rattle.cell_merge.proofs.Lists.{each_weaker}
 use Rattle.query_reader.specs.declared.checked.Checked.{Checked}
+use Rattle.query_reader.specs.Accepted.{IsCheckedFor}
+use Rattle.query_reader.proofs.Known.{checked_branches}
 use Rattle.query_reader.proofs.Lists.{all_at}
 use Rattle.private_plan.specs.declared.plans.PlanKind.{PlanKind}
 use Rattle.private_plan.specs.declared.plans.PlanKind.TheVariants as kind
 use Rattle.private_plan.specs.Counts.{counts_taken}
-use Rattle.private_plan.specs.Plans.{kind_of, last_bits, level_trees, plan_for, plan_of, position_bits, rounds_of, slot_trees}
-use Rattle.private_plan.specs.Rounds.{second_secrets, secrets_in}
+use Rattle.private_plan.specs.Plans.{for_each_slot, kind_of, last_bits, level_trees, plan_for, plan_of, position_bits, rounds_of, second_trees, slot_trees}
+use Rattle.private_plan.specs.Rounds.{first_depth, second_secrets, secrets_in}
 use Rattle.private_plan.specs.Slots.{IsPointOf, IsSlot, count_below, position_slots}
 use Rattle.private_plan.proofs.Accepted.{slots_laid}
-use Rattle.private_plan.proofs.Counts.{length-slots}
+use Rattle.private_plan.proofs.Counts.{bits_most, length-slots, second_few}
+use Rattle.private_plan.proofs.FirstTrees.{HasDepth, of_trees, one_slot, slot_first, slot_some, slots_deep, times_some}
 use Rattle.private_plan.proofs.PointSecrets.{slots_points, slots_tell, told}
 use Rattle.private_plan.proofs.PositionSlots.{bits_enough, bits_some, slots_valid}
 
@@ -73,6 +80,49 @@ second_for kind.Position checked shape counts is many =
 pub second_laid : (checked : Checked) (shape : ShapeParts) (params counts : List ℕ) → (plan_of checked shape).kind ≡ kind.Position → length counts ≡ (plan_of checked shape).first_words
     → map secret_tree (secrets_in checked shape params (record { number = 2; counts = counts })) ≡ (plan_of checked shape).second
 second_laid checked shape params counts is many = second_for (kind_of checked shape.schema.columns) checked shape counts is many
+
+-- ---- how many, and how deep
+
+times_few : (a b : ℕ) → a ≤ 8 → b ≤ 36 → a * b ≤ 288
+times_few a b h i = let one : a * b ≤ 8 * b = mul-le-mul_right b h in omega (arith, one, i)
+
+module _ (checked : Checked) (shape : ShapeParts) (is : (plan_of checked shape).kind ≡ kind.Position) where
+  -- the trees of one slot
+  abbrev each : List KeySpec
+  each = level_trees (position_bits shape.rows) (position_bits shape.rows)
+
+  second_is : (plan_of checked shape).second ≡ for_each_slot checked.branches each
+  second_is = ap (λ k. for_each_slot checked.branches (second_trees k shape.rows)) is
+
+  each_some : 1 ≤ length each
+  each_some = let bits = position_bits shape.rows in slot_some bits bits (bits_some shape.rows) (omega arith) kind.Aligned true (λ e. bits_some shape.rows)
+
+  pub second_first : IsCheckedFor checked shape.schema → first_depth (plan_of checked shape).second ≡ position_bits shape.rows
+  second_first accepted =
+      let bits = position_bits shape.rows in
+      ap first_depth second_is ∙ (one_slot each checked.branches each_some (checked_branches checked shape.schema accepted).0 ∙ slot_first bits bits (bits_some shape.rows) (omega arith) kind.Aligned true (bits_some shape.rows))
+
+  second_deep : AllByRecursion (HasDepth 18) (plan_of checked shape).second
+  second_deep =
+      let bits = position_bits shape.rows in
+      let deep = slots_deep bits bits (bits_some shape.rows) (omega arith) kind.Aligned true (range_with_len 0 checked.branches) in
+      subst (AllByRecursion (HasDepth 18)) (sym second_is)
+      (each_weaker (HasDepth bits) (HasDepth 18) (λ t d. record { some = d.some; most = let m = d.most in omega (arith, m, bits_most shape.rows) }) (for_each_slot checked.branches each) deep)
+
+  module _ (params counts : List ℕ) (many : length counts ≡ (plan_of checked shape).first_words) where
+    abbrev told_secrets : List Secret
+    told_secrets = secrets_in checked shape params (record { number = 2; counts = counts })
+
+    pub second_depths : AllByRecursion (λ s. HasDepth 18 (secret_tree s)) told_secrets
+    second_depths = of_trees 18 told_secrets (subst (AllByRecursion (HasDepth 18)) (sym (second_laid checked shape params counts is many)) second_deep)
+
+    pub second_count : IsCheckedFor checked shape.schema → (1 ≤ length told_secrets) × (length told_secrets ≤ 288)
+    second_count accepted =
+        let branches = checked_branches checked shape.schema accepted in
+        let count = sym (length-map told_secrets secret_tree) ∙ (ap length (second_laid checked shape params counts is many) ∙ (ap length second_is ∙ length-slots checked.branches each)) in
+        let some = times_some checked.branches (length each) branches.0 each_some in
+        let most = times_few checked.branches (length each) branches.1 (second_few kind.Position shape.rows) in
+        (omega (arith, count, some), omega (arith, count, most))
 
 -- ---- positions
 

@@ -92,3 +92,21 @@ pub fn points_tell_positions()
     ensures tell { (rows position : ℕ) (counts : List ℕ) → rows ≤ 262144 → counts_taken rows 0 counts ≡ Ok tt
         → sum_by (λ s. secret_value s (position / 2 ^ (position_bits rows - s.depth))) (second_secrets rows counts) ≡ sum_by (λ slot. slot_value slot position) (position_slots counts) }
 {}
+
+/// The first round of an accepted query asks for 1 to 256 trees, each of 1 to 128 levels.
+pub fn first_rounds_ask_for_few_trees()
+    ensures few { (checked : Checked) (shape : ShapeParts) (params : List ℕ) → IsSchema shape.schema → IsCheckedFor checked shape.schema → IsQuery checked.query → AreParamsFor checked shape.schema params
+        → (1 ≤ length (secrets_in checked shape params first_round)) × (length (secrets_in checked shape params first_round) ≤ 256) }
+    ensures levels { (checked : Checked) (shape : ShapeParts) (params : List ℕ) → IsSchema shape.schema → IsCheckedFor checked shape.schema → IsQuery checked.query → AreParamsFor checked shape.schema params
+        → AllByRecursion (λ s. (1 ≤ s.depth) × (s.depth ≤ 128)) (secrets_in checked shape params first_round) }
+{}
+
+/// A second round, for as many counts as the first one brings, asks for 1 to 288 trees, each of 1 to 18 levels. The first of them
+/// has as many levels as a position has bits.
+pub fn second_rounds_ask_for_few_trees()
+    ensures few { (checked : Checked) (shape : ShapeParts) (params counts : List ℕ) → IsCheckedFor checked shape.schema → (plan_of checked shape).kind ≡ kind.Position → length counts ≡ (plan_of checked shape).first_words
+        → (1 ≤ length (secrets_in checked shape params (record { number = 2; counts = counts }))) × (length (secrets_in checked shape params (record { number = 2; counts = counts })) ≤ 288) }
+    ensures levels { (checked : Checked) (shape : ShapeParts) (params counts : List ℕ) → (plan_of checked shape).kind ≡ kind.Position → length counts ≡ (plan_of checked shape).first_words
+        → AllByRecursion (λ s. (1 ≤ s.depth) × (s.depth ≤ 18)) (secrets_in checked shape params (record { number = 2; counts = counts })) }
+    ensures first { (checked : Checked) (shape : ShapeParts) → IsCheckedFor checked shape.schema → (plan_of checked shape).kind ≡ kind.Position → first_depth (plan_of checked shape).second ≡ position_bits shape.rows }
+{}

@@ -9,6 +9,7 @@ mod layout;
 mod lengths;
 mod plans;
 mod positions;
+mod rounds;
 mod secrets;
 mod slot_secrets;
 
@@ -16,5 +17,6 @@ pub use branches::slots;
 pub use layout::plan;
 pub use lengths::frame_length;
 pub use plans::{Plan, PlanKind, Specs, is_built};
+pub use rounds::{first_tree, trees_in};
 pub use secrets::{SecretFault, Secrets, round_secrets};
 pub use spl_words::KeySpec;

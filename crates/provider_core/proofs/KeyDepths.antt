@@ -1,10 +1,9 @@
 -- Keys that lie as a plan asks: of which trees they are, how deep these are, and how many words answer them.
-use Rattle.std.proofs.Common.{◌≡◌, ◌<◌, ◌≤◌, ◌-◌, ◌*◌, ◌+◌, ℕ, zero, suc, Bool, true, false, cond, List, [], ◌∷◌, ◌++◌, length, map, replicate, Option, Some, None, Result, Ok, Err, refl, sym, ap, ap₂, subst, ◌∙◌, arith, eqb}
+use Rattle.std.proofs.Common.{◌≡◌, ◌<◌, ◌≤◌, ◌-◌, ◌*◌, ◌+◌, ℕ, zero, suc, Bool, true, false, cond, List, [], ◌∷◌, ◌++◌, length, map, replicate, Option, Some, None, Ok, refl, sym, ap, ap₂, subst, ◌∙◌, arith, eqb}
 use Rattle.std.specs.List.{AllByRecursion, flat_map, range_with_len}
 use Rattle.std.proofs.lemmas.Bool.{and_parts, eqb-true, eqb-false}
 use Rattle.std.proofs.lemmas.List.{length-map}
 use Rattle.std.proofs.Math.Nat.{mul-le-mul_right}
-use Rattle.spl_words.specs.Results.{◌>>=◌}
 use Rattle.spl_words.specs.declared.secret.KeySpec.{KeySpec}
 use Rattle.spl_words.specs.declared.secret.TreeKind.{TreeKind}
 use Rattle.spl_words.specs.declared.secret.TreeKind.TheVariants as tree_kind
@@ -19,13 +18,11 @@ use Rattle.key_frames.specs.Trees.{key_tree}
 use Rattle.query_reader.specs.declared.checked.Checked.{Checked}
 use Rattle.private_plan.specs.declared.plans.PlanKind.{PlanKind}
 use Rattle.private_plan.specs.declared.plans.PlanKind.TheVariants as kind
-use Rattle.private_plan.specs.Plans.{is_built, kind_of, last_bits, level_trees, plan_of, position_bits, second_trees, slot_trees, tree, words_back}
+use Rattle.private_plan.specs.Plans.{kind_of, last_bits, level_trees, plan_of, position_bits, second_trees, slot_trees, tree, words_back}
 use Rattle.private_plan.specs.Lengths.{trees_in}
 use Rattle.private_plan.specs.Rounds.{first_depth, first_tree}
 use Rattle.private_plan.proofs.Counts.{slot_few, slots_few}
 use Rattle.private_plan.proofs.FirstTrees.{each-append}
-use Rattle.provider_core.specs.declared.fault.ProviderFault.{ProviderFault}
-use Rattle.provider_core.specs.declared.fault.ProviderFault.TheVariants.{NotBuilt}
 use Rattle.provider_core.specs.Asking.{if_placed, keys_placed}
 use Rattle.provider_core.specs.Cells.{first_bits, first_levels, words_in}
 use Rattle.provider_core.specs.Layouts.{has_kind, is_key_of, layout_differs}
@@ -177,11 +174,6 @@ words_fit_of false kind.Position trees width t w = (t.0, omega (arith, t.1))
 
 -- ---- the keys of a frame
 
--- whatever plans are answered so far
-past_kind : (built : Bool) (fault : ProviderFault) (next : Result (Unit {0}) ProviderFault) → (cond {A = Result (Unit {0}) ProviderFault} built (Ok tt) (Err fault) >>= (λ (x : Unit {0}). next)) ≡ Ok tt → next ≡ Ok tt
-past_kind true fault next h = h
-past_kind false fault next h = absurd cc
-
 placed_none : (o : Option ℕ) → if_placed o ≡ Ok tt → o ≡ None
 placed_none None h = refl
 placed_none (Some i) h = absurd cc
@@ -189,9 +181,7 @@ placed_none (Some i) h = absurd cc
 -- keys of a frame that is answered lie as the plan asks
 pub placed_layout : (table : TableParts) (checked : Checked) (frame : KeyFrame) → keys_placed table frame checked ≡ Ok tt → layout_differs 0 (trees_in (plan_of checked table.shape) frame.round) frame.keys ≡ None
 unfolding keys_placed
-placed_layout table checked frame h =
-    let next = layout_differs 0 (trees_in (plan_of checked table.shape) frame.round) frame.keys in
-    placed_none next (past_kind (is_built (kind_of checked table.shape.schema.columns)) (NotBuilt (kind_of checked table.shape.schema.columns)) (if_placed next) h)
+placed_layout table checked frame h = placed_none (layout_differs 0 (trees_in (plan_of checked table.shape) frame.round) frame.keys) h
 
 module _ (table : TableParts) (checked : Checked) (frame : KeyFrame) (allowed : FrameAllowed frame) (placed : layout_differs 0 (trees_in (plan_of checked table.shape) frame.round) frame.keys ≡ None) where
   abbrev the_kind : PlanKind

@@ -15,9 +15,8 @@ use Rattle.query_parser.specs.declared.fault.QueryFault.{QueryFault}
 use Rattle.query_reader.specs.Accepted.{IsCheckedFor}
 use Rattle.query_reader.specs.declared.checked.Checked.{Checked}
 use Rattle.judged_queries.specs.Queries.{checked_in}
-use Rattle.private_plan.specs.Plans.{is_built, kind_of, plan_of}
+use Rattle.private_plan.specs.Plans.{plan_of}
 use Rattle.private_plan.specs.Lengths.{trees_in}
-use Rattle.private_plan.specs.declared.plans.PlanKind.{PlanKind}
 use Rattle.sum_bounds.specs.Bounds.{sums_bounded}
 use Rattle.sum_bounds.specs.declared.SumFault.{SumFault}
 use Rattle.provider_core.specs.declared.fault.ProviderFault.{ProviderFault}
@@ -47,10 +46,6 @@ abbrev pub or_query_fault : Result Checked QueryFault → Result Checked Provide
 or_query_fault (Ok checked) = Ok checked
 or_query_fault (Err e) = Err (fault.Query e)
 
--- a plan of a kind that is answered
-abbrev pub if_built : PlanKind → Result (Unit {0}) ProviderFault
-if_built k = if is_built k then Ok tt else Err (fault.NotBuilt k)
-
 -- keys that lie as they have to
 abbrev pub if_placed : Option ℕ → Result (Unit {0}) ProviderFault
 if_placed None = Ok tt
@@ -63,9 +58,7 @@ or_sum_fault (Err e) = Err (fault.SumBound e.column e.at)
 
 -- the keys of a frame are those that the plan of its query asks for; a round that the plan doesn't have has no trees, so its first key is one too many
 unfoldable pub keys_placed : TableParts → KeyFrame → Checked → Result (Unit {0}) ProviderFault
-keys_placed table frame checked = do
-  built ← if_built (kind_of checked table.shape.schema.columns)
-  if_placed (layout_differs 0 (trees_in (plan_of checked table.shape) frame.round) frame.keys)
+keys_placed table frame checked = if_placed (layout_differs 0 (trees_in (plan_of checked table.shape) frame.round) frame.keys)
 
 -- the frame that bytes are, for this provider and a table of that shape
 unfoldable pub frame_in : Provider → List ℕ → TableParts → Result KeyFrame ProviderFault

@@ -2,7 +2,6 @@
 ghost use Rattle.std.specs.Prelude.{◌≡◌, ◌+◌, ◌*◌, ◌≤◌, length, vec_len, IfOk, IfErr};
 ghost use Rattle.spl_words.specs.Results.{Gives};
 ghost use Rattle.answer_frames.specs.Spelling.{Allowed, spelling};
-ghost use Rattle.private_plan.specs.Rounds.{first_tree as tree_of_first};
 ghost use Rattle.session_model.specs.Answers.{answer_bytes};
 ghost use Rattle.provider_core.specs.Answering.{answered};
 ghost use Rattle.provider_core.specs.Asking.{IsRequest};
@@ -16,7 +15,7 @@ use crate::words::{Folding, fill_words, first_cells};
 use answer_frames::{AnswerFrame, fill_answer};
 use csv_tables::table_digest;
 use key_frames::frame_digest;
-use private_plan::{Plan, plan};
+use private_plan::{Plan, first_tree, plan};
 use query_reader::laws::{accepted_has_cells, accepted_has_keys};
 use seed_expansion::Expander;
 use share_eval::{Gate, Lane};
@@ -29,24 +28,12 @@ use std::thread::Threads;
 fn bytes_of(frame: &AnswerFrame, room: Vec<u8>) -> Vec<u8>
     requires allowed { Allowed frame.now }
     requires room { vec_len room ≡ 123 + 8 * length frame.now.words }
-    ensures bytes { result.items ≡ spelling frame.now }
-    ensures short { length result.items ≤ 524411 }
+    ensures spelled { result.items ≡ spelling frame.now }
+    ensures short { length result.items ≤ 123 + 8 * 65536 }
 {
     let mut bytes = room;
     fill_answer(frame, &mut bytes);
     bytes
-}
-
-/// The number of the first tree of a plan's round: those of the second round follow on.
-fn first_tree(plan: &Plan, round: u32) -> u32
-    requires { tree_of_first plan.now round ≤ 512 }
-    ensures { result ≡ tree_of_first plan.now round }
-{
-    if round == 2 {
-        plan.first.as_slice().len() as u32
-    } else {
-        0
-    }
 }
 
 /// How many words answer a round of a plan.
@@ -74,8 +61,8 @@ fn reply<T: Threads + Sync, E: Expander + Sync, G: Gate + Sync>(
 ) -> Result<Vec<u8>, AllocError>
     requires asked { IsRequest bytes.now table.now asked.now }
     requires workers { (1 ≤ workers) × (workers ≤ 64) }
-    ensures bytes { IfOk result (λ v. v.items ≡ answer_bytes (E.meaning expander.now) provider bytes.now asked.now.frame asked.now.checked table.now) }
-    ensures short { IfOk result (λ v. length v.items ≤ 524411) }
+    ensures answer { IfOk result (λ v. v.items ≡ answer_bytes (E.meaning expander.now) provider bytes.now asked.now.frame asked.now.checked table.now) }
+    ensures short { IfOk result (λ v. length v.items ≤ 123 + 8 * 65536) }
 {
     // What a table and an accepted query keep.
     let _ = table.shape();
@@ -130,8 +117,8 @@ pub fn answer<T: Threads + Sync, E: Expander + Sync, G: Gate + Sync>(
     requires { (1 ≤ workers) × (workers ≤ 64) }
     // The frame's answer, or the first refusal, unless memory runs out.
     ensures gives { Gives OutOfMemory (λ v. v.items) result (answered (E.meaning expander.now) provider frame.now table.now) }
-    // No answer has more bytes than one of 65,536 words.
-    ensures short { IfOk result (λ v. length v.items ≤ 524411) }
+    // An answer has at most 65,536 words.
+    ensures short { IfOk result (λ v. length v.items ≤ 123 + 8 * 65536) }
     // No fault in a refusal is want of memory.
     ensures memory { IfErr result OwnsMemory }
 {

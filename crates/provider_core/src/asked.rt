@@ -14,7 +14,7 @@ ghost use Rattle.provider_core.specs.Faults.{OwnsMemory};
 ghost use Rattle.provider_core.specs.declared.fault.ProviderFault.TheVariants.{OutOfMemory};
 
 use crate::fault::ProviderFault;
-use crate::layout::{check_kind, check_layout};
+use crate::layout::check_layout;
 use crate::shapes::check_shape;
 use judged_queries::judge_query_bytes;
 use key_frames::{KeyFrame, read_key_frame};
@@ -72,7 +72,7 @@ fn query_of(alloc: Global, schema: &Schema, text: &[u8]) -> Result<Checked, Prov
     }
 }
 
-/// Whether the query's plan is one that is answered, and asks for the frame's keys.
+/// Whether the query's plan asks for the frame's keys.
 #[tactic(auto, unfolding(crate::specs::Asking::keys_placed))]
 fn check_keys(
     alloc: Global,
@@ -86,7 +86,6 @@ fn check_keys(
     ensures memory { IfErr result OwnsMemory }
 {
     let plan = plan(alloc, checked, table.shape())?;
-    check_kind(plan.kind)?;
     check_layout(&plan, frame.round, frame.keys.as_slice())
 }
 

@@ -2,7 +2,6 @@
 ghost use Rattle.std.specs.Prelude.{◌≡◌};
 ghost use Rattle.provider_core.specs.declared.fault.ProviderFault.TheVariants as fault;
 
-use private_plan::PlanKind;
 use query_reader::QueryFault;
 use spl_words::{FrameFault, Provider};
 use std::alloc::AllocError;
@@ -19,8 +18,6 @@ pub enum ProviderFault {
     ShapeDiffers(u32),
     /// The frame's query isn't read, or isn't accepted for the table.
     Query(QueryFault),
-    /// The query's plan is of a kind that isn't answered yet.
-    NotBuilt(PlanKind),
     /// The first key, from 0, that isn't of the kind and the depth of its tree in the plan's round. A key that is missing
     /// or too many counts at its place, and each key is too many where the plan has no such round.
     WrongLayout(u32),

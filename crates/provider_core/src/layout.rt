@@ -1,25 +1,14 @@
 //! Whether a frame's keys are those that the plan asks for.
 ghost use Rattle.std.specs.Prelude.{◌≡◌, ◌≤◌, ◌↔◌, IsTrue, length, slice_get};
 ghost use Rattle.private_plan.specs.Lengths.{trees_in as trees_of_round};
-ghost use Rattle.provider_core.specs.Asking.{if_built, if_placed};
+ghost use Rattle.provider_core.specs.Asking.{if_placed};
 ghost use Rattle.provider_core.specs.Layouts.{has_kind as is_of_kind, is_key_of as is_of_tree, layout_differs as first_difference, IsPlaced};
 ghost use Rattle.key_frames.specs.Keys.{depth as depth_of};
 
 use crate::fault::ProviderFault;
 use key_frames::Key;
-use private_plan::{KeySpec, Plan, PlanKind, is_built};
+use private_plan::{KeySpec, Plan, trees_in};
 use spl_words::TreeKind;
-
-/// Whether a plan of that kind is answered.
-pub fn check_kind(kind: PlanKind) -> Result<(), ProviderFault>
-    ensures { result ≡ if_built kind }
-{
-    if is_built(kind) {
-        Ok(())
-    } else {
-        Err(ProviderFault::NotBuilt(kind))
-    }
-}
 
 /// Whether a key is of that kind.
 fn has_kind(kind: TreeKind, key: &Key) -> bool
@@ -73,17 +62,6 @@ fn layout_differs(trees: &[KeySpec], keys: &[Key]) -> Option<u32>
         Some(keys.len() as u32)
     } else {
         None
-    }
-}
-
-/// The trees of a round of a plan.
-fn trees_in(plan: &Plan, round: u32) -> &[KeySpec]
-    ensures { result.now ≡ trees_of_round plan.now round }
-{
-    if round == 2 {
-        plan.second.as_slice()
-    } else {
-        plan.first.as_slice()
     }
 }
 

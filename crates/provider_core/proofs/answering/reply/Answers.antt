@@ -31,12 +31,12 @@ bytes_of-requires-clause-allowed g c =
       count = omega (arith, size, fit.1);
     }
 
-pub returns-clause-bytes : goal.returns-clause-bytes
-returns-clause-bytes g c =
+pub returns-clause-answer : goal.returns-clause-answer
+returns-clause-answer g c =
     let frame = c.args.asked.now.frame in
     let kept : length c.fill_words.new.words ≡ vec_len c.in_ok-words.words = c.fill_words.auto.words ∙ c.deref_mut-3.ensures.len in
     let words = c.from_vec.ensures ∙ take_at c.fill_words.new.words (drop (length c.fill_words.new.words) c.in_ok-words.words.items) (vec_len c.in_ok-words.words) kept ∙ c.fill_words.ensures in
-    c.bytes_of.ensures.bytes
+    c.bytes_of.ensures.spelled
     ∙ same_spelling frame.session frame.round c.args.provider c.frame_digest.result _ c.in_ok-digest.digest _ c.from_vec.result _ c.frame_digest.ensures c.in_ok-digest.ensures words
 
 pub first_tree-requires : goal.first_tree-requires
