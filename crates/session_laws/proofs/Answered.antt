@@ -57,5 +57,5 @@ pub own_answered : (e : Meaning) (p : Provider) (checked : Checked) (table : Tab
 own_answered e p checked table params words bytes asked built bounded canonical of =
     let f = key_frame e p checked table.shape params words in
     let frame = frame_is p bytes table f (frame_read bytes f of) (own_is p) (same_is (shape_text table.shape)) in
-    let query = query_is table f checked canonical (round_placed e p checked table params words asked built) bounded in
+    let query = query_is table f checked canonical (round_placed e p checked table params words asked) bounded in
     answered_is e p bytes table f checked (asked_is p bytes table f checked frame query)

@@ -9,7 +9,7 @@ use Rattle.spl_words.specs.Secrets.{Secret, secret_tree}
 use Rattle.spl_values.specs.Tables.{TableParts}
 use Rattle.seed_expansion.specs.Expanders.{Meaning}
 use Rattle.query_reader.specs.declared.checked.Checked.{Checked}
-use Rattle.private_plan.specs.Plans.{IsBuilt, plan_of, tree}
+use Rattle.private_plan.specs.Plans.{plan_of, tree}
 use Rattle.private_plan.specs.Lengths.{trees_in}
 use Rattle.private_plan.specs.Rounds.{first_round, secrets_in}
 use Rattle.private_plan.proofs.Accepted.{secrets_laid}
@@ -47,19 +47,18 @@ module _ (e : Meaning) (p : Provider) where
 
 -- ---- a plan
 
--- keys in their places, where the plan is built
-placed_is : (table : TableParts) (frame : KeyFrame) (checked : Checked) → IsBuilt checked table.shape.schema.columns → layout_differs 0 (trees_in (plan_of checked table.shape) frame.round) frame.keys ≡ None
+-- keys in their places
+placed_is : (table : TableParts) (frame : KeyFrame) (checked : Checked) → layout_differs 0 (trees_in (plan_of checked table.shape) frame.round) frame.keys ≡ None
     → keys_placed table frame checked ≡ Ok tt
 unfolding keys_placed
-placed_is table frame checked built none =
-    rw (built, none) refl
+placed_is table frame checked none = rw none refl
 
 -- the keys of a round lie as its plan asks
-pub round_placed : (e : Meaning) (p : Provider) (checked : Checked) (table : TableParts) (params words : List ℕ) → IsWellPut checked table.shape params → IsBuilt checked table.shape.schema.columns
+pub round_placed : (e : Meaning) (p : Provider) (checked : Checked) (table : TableParts) (params words : List ℕ) → IsWellPut checked table.shape params
     → keys_placed table (key_frame e p checked table.shape params words) checked ≡ Ok tt
-round_placed e p checked table params words asked built =
+round_placed e p checked table params words asked =
     let secrets = secrets_in checked table.shape params first_round in
     let keys = key_list e p 0 secrets (session_roots secrets words) in
     let laid = secrets_placed e p 0 0 secrets (session_roots secrets words) (length-roots_of (length secrets) (drop 2 words)) in
-    placed_is table (key_frame e p checked table.shape params words) checked built
+    placed_is table (key_frame e p checked table.shape params words) checked
     (subst (λ (ts : List KeySpec). layout_differs 0 ts keys ≡ None) (secrets_laid checked table.shape params asked.accepted asked.form.form asked.known) laid)

@@ -23,7 +23,6 @@ provider_refusal p key shape (provider.Frame f) = refusal.Frame key f
 provider_refusal p key shape (provider.WrongProvider q) = refusal.Differ (differ.Provider p q)
 provider_refusal p key shape (provider.ShapeDiffers line) = refusal.Differ (differ.ShapeLine line)
 provider_refusal p key shape (provider.Query f) = refusal.Query f
-provider_refusal p key shape (provider.NotBuilt k) = refusal.NotBuilt part.Plan
 provider_refusal p key shape (provider.WrongLayout i) = refusal.Differ (differ.Layout i)
 provider_refusal p key shape (provider.SumBound c at) = refusal.SumBound (name_in shape.schema.columns c) c at
 provider_refusal p key shape provider.OutOfMemory = refusal.Usage

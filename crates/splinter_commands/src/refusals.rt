@@ -55,7 +55,6 @@ fn refusal_of_provider(
         }
         ProviderFault::ShapeDiffers(line) => Ok(Refusal::Differ(Differ::ShapeLine(line))),
         ProviderFault::Query(fault) => Ok(Refusal::Query(fault)),
-        ProviderFault::NotBuilt(_) => Ok(Refusal::NotBuilt(Part::Plan)),
         ProviderFault::WrongLayout(key) => Ok(Refusal::Differ(Differ::Layout(key))),
         ProviderFault::SumBound(column, at) => Ok(Refusal::SumBound(
             column_name(alloc, shape, column)?,
