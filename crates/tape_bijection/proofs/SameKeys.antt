@@ -47,6 +47,7 @@ small : (goal : ℕ) (t0 t1 : Bool) (w0 w1 : ℕ) → last_word goal t0 t1 w0 w1
 unfolding last_word
 small goal t0 t1 w0 w1 = omega arith
 
+-- `sort` is the kind that both secrets name; of what is made here only `kind` tells the words apart
 module _ (kind : TreeKind) (e : Meaning) (tape : IsTape e) (p : Provider) (tree : ℕ) (sort : TreeKind) (depth alpha beta alpha2 beta2 : ℕ) where
   abbrev pub first : Secret
   first = record { kind = sort; depth = depth; alpha = alpha; beta = beta }
