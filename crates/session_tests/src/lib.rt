@@ -5,6 +5,8 @@
 #[cfg(test)]
 mod answering;
 #[cfg(test)]
+mod first_row;
+#[cfg(test)]
 mod linking;
 #[cfg(test)]
 mod rounds;

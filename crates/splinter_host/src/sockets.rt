@@ -13,6 +13,9 @@ const PATIENCE: u64 = 60;
 /// How many of the places that an address names are tried, each with its part of the patience.
 const MOST_PLACES: u64 = 4;
 
+/// How many connections in a row may be given up before they come in.
+const MOST_GIVEN_UP: u32 = 1_000;
+
 /// How many times a read is begun anew because a signal came between.
 const MOST_SIGNALS: u32 = 16;
 
@@ -32,11 +35,28 @@ pub fn connect<R: Net>(rt: &R, address: &str) -> io::Result<R::Stream> {
     Err(last)
 }
 
-/// The next connection at a listener.
+/// The next connection at a listener. Those that were given up before they came in are passed over.
 pub fn accept<L: OpenListener<Stream: OpenStream>>(listener: &L) -> io::Result<L::Stream> {
-    let (stream, _) = listener.accept()?;
-    limit_waits(&stream)?;
-    Ok(stream)
+    for _ in 0..MOST_GIVEN_UP {
+        match listener.accept() {
+            Ok((stream, _)) => {
+                if limit_waits(&stream).is_ok() {
+                    return Ok(stream);
+                }
+            }
+            Err(error) if is_passed_over(error.kind()) => {}
+            Err(error) => return Err(error),
+        }
+    }
+    Err(io::Error::from(ErrorKind::ConnectionAborted))
+}
+
+/// Whether such an error is one connection's, or a signal's, and says nothing of the listener.
+fn is_passed_over(kind: ErrorKind) -> bool {
+    matches!(
+        kind,
+        ErrorKind::ConnectionAborted | ErrorKind::ConnectionReset | ErrorKind::Interrupted
+    )
 }
 
 /// Limits each wait in a read or a send.
