@@ -18,7 +18,7 @@ code_of (fault.ShapeDiffers line) = 3
 code_of (fault.Query f) = 4
 code_of (fault.WrongLayout key) = 5
 code_of (fault.SumBound column row) = 6
-code_of _ = 7
+code_of fault.OutOfMemory = 7
 
 -- the body that tells an answer or a refusal: the byte 0 and the answer's bytes, or the refusal's code alone
 abbrev pub body_of : Result (List ℕ) ProviderFault → List ℕ

@@ -36,7 +36,7 @@ fn code_of(fault: ProviderFault) -> u8
         ProviderFault::Query(_) => 4,
         ProviderFault::WrongLayout(_) => 5,
         ProviderFault::SumBound(_, _) => 6,
-        _ => 7,
+        ProviderFault::OutOfMemory => 7,
     }
 }
 
