@@ -5,8 +5,6 @@
 #[cfg(test)]
 mod answering;
 #[cfg(test)]
-mod first_row;
-#[cfg(test)]
 mod linking;
 #[cfg(test)]
 mod rounds;
